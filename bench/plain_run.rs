@@ -1,7 +1,7 @@
 //! Runs the scripts of a configuration file, each on a thread of its own, and prints the report, as
 //! `vme run` does: a `Mutex` for each board and one for the arbiter. It knows boards of one level
-//! and lines `m 09 ADDRESS 4 add NUMBER` and `lm OFFSET 4 add NUMBER` alone; with the code 08, which
-//! is reserved, the former is refused.
+//! and lines `m 09 ADDRESS 4 add NUMBER`, `lm OFFSET 4 add NUMBER` and `await 09 ADDRESS BYTES` alone;
+//! with the code 08, which is reserved, the first is refused. `tries` may stand before the boards.
 //!
 //! usage: plain_run FILE
 
@@ -11,6 +11,9 @@ use std::sync::Mutex;
 use std::thread;
 
 const SPINS: u32 = 6;
+
+/// The number of attempts at a line where the file states none.
+const TRIES: usize = 1_000;
 
 struct Board {
     memory: Vec<u8>,
@@ -24,11 +27,23 @@ enum Way {
     Refused,
 }
 
-/// What a line adds, and where.
+/// What a line does at its place.
+enum Access {
+    Add(u32),
+    Await(Vec<u8>),
+}
+
 struct Line {
     way: Way,
     address: usize,
-    added: u32,
+    access: Access,
+}
+
+enum Reply {
+    Old(u32),
+    Met,
+    Timeout,
+    Refused,
 }
 
 struct Place {
@@ -72,14 +87,24 @@ fn number(text: &str) -> Option<usize> {
 
 fn line(text: &str) -> Option<Line> {
     let words: Vec<&str> = text.split(' ').collect();
-    let (way, address, added) = match words.as_slice() {
-        ["m", "09", address, "4", "add", added] => (Way::Bus, address, added),
-        ["m", "08", address, "4", "add", added] => (Way::Refused, address, added),
-        ["lm", offset, "4", "add", added] => (Way::Local, offset, added),
+    let (way, address, access) = match words.as_slice() {
+        ["m", "09", address, "4", "add", added] => (Way::Bus, address, add_of(added)?),
+        ["m", "08", address, "4", "add", added] => (Way::Refused, address, add_of(added)?),
+        ["lm", offset, "4", "add", added] => (Way::Local, offset, add_of(added)?),
+        ["await", "09", address, bytes] => (Way::Bus, address, Access::Await(hex_bytes(bytes)?)),
         _ => return None,
     };
     let address = usize::from_str_radix(address, 16).ok()?;
-    Some(Line { way, address, added: u32::from_str_radix(added, 16).ok()? })
+    Some(Line { way, address, access })
+}
+
+fn add_of(number: &str) -> Option<Access> {
+    Some(Access::Add(u32::from_str_radix(number, 16).ok()?))
+}
+
+fn hex_bytes(digits: &str) -> Option<Vec<u8>> {
+    let starts = (0..digits.len()).step_by(2);
+    starts.map(|start| u8::from_str_radix(digits.get(start..start + 2)?, 16).ok()).collect()
 }
 
 fn place(text: &str) -> Option<Place> {
@@ -121,31 +146,65 @@ fn add(board: &Mutex<Board>, who: usize, offset: usize, added: u32) -> u32 {
     old
 }
 
-fn over_bus(places: &[Place], boards: &[Mutex<Board>], bus: &Mutex<Arbiter>, who: usize, line: &Line) -> Option<u32> {
-    take_bus(bus, who);
-    let end = line.address + 4;
-    let target = places.iter().position(|it| it.base <= line.address && end <= it.base + it.size);
-    let old = target.map(|target| add(&boards[target], who, line.address - places[target].base, line.added));
-    bus.lock().unwrap().give_back(who);
-    old
+fn is_found(board: &Mutex<Board>, who: usize, offset: usize, wanted: &[u8]) -> bool {
+    let mut board = board.lock().unwrap();
+    board.made[who] += 1;
+    board.memory[offset..offset + wanted.len()] == *wanted
 }
 
-fn work(places: &[Place], boards: &[Mutex<Board>], bus: &Mutex<Arbiter>, who: usize) -> Vec<Option<u32>> {
-    let answer = |line: &Line| match line.way {
-        Way::Bus => over_bus(places, boards, bus, who, line),
-        Way::Local => Some(add(&boards[who], who, line.address, line.added)),
-        Way::Refused => None,
-    };
-    places[who].script.iter().map(answer).collect()
+/// What all threads share.
+struct Shared<'a> {
+    tries: usize,
+    places: &'a [Place],
+    boards: &'a [Mutex<Board>],
+    bus: &'a Mutex<Arbiter>,
 }
 
-fn report(places: &[Place], boards: Vec<Mutex<Board>>, replies: &[Vec<Option<u32>>]) -> String {
+impl Shared<'_> {
+    /// A transfer of `len` bytes in a tenure of the bus, or nothing where no board has them.
+    fn over_bus<T>(&self, who: usize, address: usize, len: usize, does: impl Fn(&Mutex<Board>, usize) -> T) -> Option<T> {
+        take_bus(self.bus, who);
+        let target = self.places.iter().position(|it| it.base <= address && address + len <= it.base + it.size);
+        let done = target.map(|target| does(&self.boards[target], address - self.places[target].base));
+        self.bus.lock().unwrap().give_back(who);
+        done
+    }
+
+    fn reply(&self, who: usize, line: &Line) -> Option<Reply> {
+        match (&line.way, &line.access) {
+            (Way::Refused, _) => Some(Reply::Refused),
+            (Way::Local, Access::Add(added)) => Some(Reply::Old(add(&self.boards[who], who, line.address, *added))),
+            (Way::Bus, Access::Add(added)) => {
+                self.over_bus(who, line.address, 4, |board, offset| add(board, who, offset, *added)).map(Reply::Old)
+            }
+            (_, Access::Await(wanted)) => self.awaited(who, line.address, wanted),
+        }
+    }
+
+    fn awaited(&self, who: usize, address: usize, wanted: &[u8]) -> Option<Reply> {
+        for _ in 0..self.tries {
+            if self.over_bus(who, address, wanted.len(), |board, offset| is_found(board, who, offset, wanted))? {
+                return Some(Reply::Met);
+            }
+        }
+        Some(Reply::Timeout)
+    }
+
+    fn work(&self, who: usize) -> Vec<Option<Reply>> {
+        self.places[who].script.iter().map(|line| self.reply(who, line)).collect()
+    }
+}
+
+fn report(places: &[Place], boards: Vec<Mutex<Board>>, replies: &[Vec<Option<Reply>>]) -> String {
     let mut text = String::new();
     for (place, replies) in places.iter().zip(replies) {
         for (number, reply) in (1..).zip(replies) {
             let _ = match reply {
-                Some(old) => writeln!(text, "{}:{number} old {old:08x}", place.slot),
-                None => writeln!(text, "{}:{number} refused", place.slot),
+                Some(Reply::Old(old)) => writeln!(text, "{}:{number} old {old:08x}", place.slot),
+                Some(Reply::Met) => writeln!(text, "{}:{number} met", place.slot),
+                Some(Reply::Timeout) => writeln!(text, "{}:{number} timeout", place.slot),
+                Some(Reply::Refused) => writeln!(text, "{}:{number} refused K1", place.slot),
+                None => writeln!(text, "{}:{number} berr 0", place.slot),
             };
         }
     }
@@ -168,17 +227,21 @@ fn report(places: &[Place], boards: Vec<Mutex<Board>>, replies: &[Vec<Option<u32
 fn main() -> ExitCode {
     let path = std::env::args().nth(1).expect("usage: plain_run FILE");
     let text = std::fs::read_to_string(path).expect("a file");
-    let tables = text.split("[[board]]\n").skip(1);
-    let places: Vec<Place> = tables.map(place).collect::<Option<_>>().expect("boards that add");
+    let (head, tables) = text.split_once("[[board]]\n").expect("a board");
+    let tries = head.lines().find_map(|line| number(line.strip_prefix("tries = ")?)).unwrap_or(TRIES);
+    let tables = tables.split("[[board]]\n");
+    let places: Vec<Place> = tables.map(place).collect::<Option<_>>().expect("lines that it knows");
     let count = places.len();
     let empty = |place: &Place| Mutex::new(Board { memory: vec![0; place.size], made: vec![0; count] });
     let boards: Vec<Mutex<Board>> = places.iter().map(empty).collect();
     let bus = Mutex::new(Arbiter { asks: vec![false; count], owner: None });
-    let replies: Vec<Vec<Option<u32>>> = thread::scope(|scope| {
-        let (places, boards, bus) = (&places, &boards, &bus);
-        let threads: Vec<_> = (0..count).map(|who| scope.spawn(move || work(places, boards, bus, who))).collect();
+    let shared = Shared { tries, places: &places, boards: &boards, bus: &bus };
+    let replies: Vec<Vec<Option<Reply>>> = thread::scope(|scope| {
+        let shared = &shared;
+        let threads: Vec<_> = (0..count).map(|who| scope.spawn(move || shared.work(who))).collect();
         threads.into_iter().map(|thread| thread.join().unwrap()).collect()
     });
     print!("{}", report(&places, boards, &replies));
-    ExitCode::SUCCESS
+    let all_good = replies.iter().flatten().all(|reply| matches!(reply, Some(Reply::Old(_) | Reply::Met)));
+    ExitCode::from(u8::from(!all_good))
 }

@@ -1,8 +1,10 @@
-"""The files with which `vme run` is timed: so many boards, each with a script of its processor."""
+"""Files that are timed: so many boards, each with a script of its processor."""
 
 COUNTS = [1, 2, 4, 21]
 LINES = 1_000
 OFFSET = 16
+# As many as a file may state.
+ROUNDS = 1_000_000
 
 
 def base(board):
@@ -40,3 +42,21 @@ def forms(count):
 def rows(sums):
     """The rows of memory in the report that these sums make."""
     return [f"mem {board + 1} {OFFSET:08x} {total:08x}{'00' * 12}" for board, total in sums]
+
+
+def awaiting(count, reads):
+    """A file of boards whose processors each read a byte of their own board so many times over the bus; it is never set."""
+    script = lambda board: f"await 09 {base(board) + OFFSET:08x} 01\n"
+    return f"tries = {reads}\nrounds = {ROUNDS}\n{configuration(count, script)}"
+
+
+def locking(tries):
+    """A file of one board whose processor takes a lock, and then tries to take it again so many times."""
+    script = lambda board: f"lock 09 {OFFSET:08x}\n" * 2
+    return f"tries = {tries}\nrounds = {ROUNDS}\n{configuration(1, script)}"
+
+
+def silent(count, size):
+    """A file of so many boards of that size, without a line."""
+    table = lambda board: f'[[board]]\nslot = {board + 1}\nbase = {size * board:#x}\nsize = {size}\nscript = """\n"""\n'
+    return "".join(map(table, range(count)))

@@ -1,19 +1,24 @@
 //! The program `bendrika`, the companion of `vme`.
 //!
 //! `bendrika check` reports every fault of configuration files, `bendrika cycles` those of request
-//! lines, and `bendrika explain` prints what a code or a reply of `vme` means. The exit status is
-//! 0, or 1 after errors in an input, 2 for wrong words, or 3 after a fault.
+//! lines, `bendrika explain` prints what a code or a reply of `vme` means, `bendrika serve` answers
+//! lines one by one, and `bendrika outcomes` lists every outcome of a file. The exit status is 0, or
+//! 1 after errors in an input, 2 for wrong words, or 3 after a fault.
 #![tactic(auto)]
 
 mod check;
 mod explain;
 mod fault;
+mod outcomes;
+mod serve;
 mod status;
 mod words;
 
 use crate::check::{checked, requests_checked};
 use crate::explain::explained;
 use crate::fault::{Fault, fault_of};
+use crate::outcomes::listed;
+use crate::serve::served;
 use crate::status::Status;
 use crate::words::program;
 use clap::error::{Error, ErrorKind};
@@ -47,6 +52,8 @@ fn run(rt: &HostRuntime) -> Result<Status, Fault> {
             Some(("check", words)) => checked(rt, words),
             Some(("cycles", words)) => requests_checked(rt, words),
             Some(("explain", words)) => explained(rt, words),
+            Some(("outcomes", words)) => listed(rt, words),
+            Some(("serve", words)) => served(rt, words),
             _ => Ok(Status::WrongWords),
         },
         Err(error) => not_parsed(rt, &error),

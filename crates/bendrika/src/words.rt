@@ -1,4 +1,5 @@
 //! The words of the command line.
+use crate::outcomes::outcomes;
 use clap::{Arg, ArgAction, Command, value_parser};
 use std::alloc::{AllocError, Global};
 
@@ -18,7 +19,9 @@ pub(crate) fn program<'a>(alloc: Global) -> Result<Command<'a>, AllocError> {
         .subcommand_required(true)
         .subcommand(check(alloc)?)?
         .subcommand(explain(alloc)?)?
-        .subcommand(cycles(alloc)?)
+        .subcommand(cycles(alloc)?)?
+        .subcommand(serve(alloc)?)?
+        .subcommand(outcomes(alloc)?)
 }
 
 /// `bendrika check`.
@@ -34,8 +37,8 @@ fn check<'a>(alloc: Global) -> Result<Command<'a>, AllocError> {
         .action(ArgAction::SetTrue)
         .help("Report errors alone");
     Command::new(alloc, "check")
-        .about("Report every fault of configuration files, with line and column")
-        .after_help("Status: 0 no error, 1 errors, 2 wrong words, 3 a file or device fault")
+        .about("Report the faults of configuration files, with line and column")
+        .after_help("Status: 0 no error, 1 errors, 2 wrong words, 3 a file or the output failed")
         .arg(files)?
         .arg(json(alloc))?
         .arg(quiet(alloc))?
@@ -49,8 +52,8 @@ fn cycles<'a>(alloc: Global) -> Result<Command<'a>, AllocError> {
         .value_name("FILE")
         .help("A file of request lines; - or none is standard input");
     Command::new(alloc, "cycles")
-        .about("Report every fault of request lines, and make no cycle")
-        .after_help("Status: 0 no error, 1 errors, 2 wrong words, 3 a file or device fault")
+        .about("Report the faults of request lines, and make no cycle")
+        .after_help("Status: 0 no error, 1 errors, 2 wrong words, 3 a file or the output failed")
         .arg(file)?
         .arg(json(alloc))?
         .arg(quiet(alloc))?
@@ -77,6 +80,18 @@ fn explain<'a>(alloc: Global) -> Result<Command<'a>, AllocError> {
         .arg(words)?
         .arg(all)?
         .arg(json(alloc))
+}
+
+/// `bendrika serve`.
+fn serve<'a>(alloc: Global) -> Result<Command<'a>, AllocError> {
+    let file = Arg::new(alloc, "FILE")
+        .value_name("FILE")
+        .required(true)
+        .help("A configuration file; its scripts, schedule, rounds and tries play no part");
+    Command::new(alloc, "serve")
+        .about("Answer lines `SLOT LINE` of standard input, one by one, over a file's boards")
+        .after_help("Status: 0 end of input, 1 not a configuration, 2 wrong words, 3 a fault")
+        .arg(file)
 }
 
 /// The option `--json`.

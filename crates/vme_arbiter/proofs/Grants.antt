@@ -6,8 +6,8 @@ use Rattle.std.proofs.lemmas.Bool.{lt-ltb, le-ltb, ltb-true, eqb-true, ne_eqb, e
 use Rattle.std.proofs.lemmas.Option.{same_Some}
 use Rattle.std.proofs.lemmas.List.Elements.{All-nil, All-cons, All-head, All-tail, All-weaker, All-contains}
 use Rattle.std.proofs.lemmas.List.Folds.{list_any_at, list_any_none}
-use Rattle.vme_arbiter.specs.Levels.{level_order, stands_before}
-use Rattle.vme_arbiter.specs.Requests.{BusRequest, goes_before, next_request, is_level}
+use Rattle.vme_arbiter.specs.Levels.{level_order, level_precedes}
+use Rattle.vme_arbiter.specs.Requests.{BusRequest, request_precedes, next_request, is_level}
 use Rattle.vme_arbiter.specs.Grants.{IsBehind, IsNext}
 use Rattle.vme_arbiter.proofs.Orders.{before-irreflexive, before-transitive, before-asymmetric, before-apart, before-total}
 
@@ -16,8 +16,8 @@ pub same_request : (a b : BusRequest) → a.level ≡ b.level → a.slot ≡ b.s
 same_request a b level slot = λ i. record { level = level i; slot = slot i }
 
 -- the two ways in which a request precedes another
-before-cases : (levels : List ℕ) (a b : BusRequest) → goes_before levels a b ≡ true
-    → (stands_before levels a.level b.level ≡ true) ⊎ ((a.level ≡ b.level) × (a.slot < b.slot))
+before-cases : (levels : List ℕ) (a b : BusRequest) → request_precedes levels a b ≡ true
+    → (level_precedes levels a.level b.level ≡ true) ⊎ ((a.level ≡ b.level) × (a.slot < b.slot))
 before-cases levels a b before =
     elim (or_cases _ _ before) [
       | inl greater ↦ inl greater
@@ -25,15 +25,15 @@ before-cases levels a b before =
     ]
 
 -- on one level, a request of a lower slot precedes one of a greater slot
-lower-before : (levels : List ℕ) (a b : BusRequest) → a.level ≡ b.level → a.slot < b.slot → goes_before levels a b ≡ true
+lower-before : (levels : List ℕ) (a b : BusRequest) → a.level ≡ b.level → a.slot < b.slot → request_precedes levels a b ≡ true
 lower-before levels a b level slot = or_right _ _ (and_from _ _ (eq-eqb a.level b.level level) (lt-ltb a.slot b.slot slot))
 
 -- a level does not precede itself
-not_before_same : (levels : List ℕ) (a b : ℕ) → a ≡ b → stands_before levels a b ≡ false
-not_before_same levels a b same = ap (λ l. stands_before levels l b) same ∙ before-irreflexive levels b
+not_before_same : (levels : List ℕ) (a b : ℕ) → a ≡ b → level_precedes levels a b ≡ false
+not_before_same levels a b same = ap (λ l. level_precedes levels l b) same ∙ before-irreflexive levels b
 
 -- a request behind another does not precede it
-behind-not_before : (levels : List ℕ) (next other : BusRequest) → IsBehind levels next other → goes_before levels other next ≡ false
+behind-not_before : (levels : List ℕ) (next other : BusRequest) → IsBehind levels next other → request_precedes levels other next ≡ false
 behind-not_before levels next other (inl same) =
     or_from _ _ (not_before_same levels other.level next.level (ap (λ r. r.level) same))
     (and_right _ _ (let at = ap (λ (r : BusRequest). r.slot) same in le-ltb other.slot next.slot (omega arith)))
@@ -46,14 +46,14 @@ behind-not_before levels next other (inr (inr greater)) =
 
 -- a request behind the next one is that one, or the next one precedes it
 behind-before : (levels : List ℕ) (next other : BusRequest) → IsBehind levels next other
-    → (other ≡ next) ⊎ (goes_before levels next other ≡ true)
+    → (other ≡ next) ⊎ (request_precedes levels next other ≡ true)
 behind-before levels next other (inl same) = inl same
 behind-before levels next other (inr (inl later)) = inr (or_left _ _ later)
 behind-before levels next other (inr (inr greater)) = inr (lower-before levels next other (sym greater.0) greater.1)
 
 -- a request that does not precede another is behind it
 not_before-behind : (first : ℕ) (next other : BusRequest) → first < 4 → is_level next.level ≡ true → is_level other.level ≡ true
-    → goes_before (level_order first) other next ≡ false → IsBehind (level_order first) next other
+    → request_precedes (level_order first) other next ≡ false → IsBehind (level_order first) next other
 not_before-behind first next other first< next_ok other_ok not_before =
     let apart = or_parts _ _ not_before in
     elim (before-total first other.level next.level first< (ltb-true other.level 4 other_ok) (ltb-true next.level 4 next_ok)) [
@@ -68,25 +68,25 @@ not_before-behind first next other first< next_ok other_ok not_before =
     ]
 
 -- a request behind another is behind each request that precedes it
-behind-later : (levels : List ℕ) (next other first : BusRequest) → IsBehind levels next other → goes_before levels first next ≡ true
+behind-later : (levels : List ℕ) (next other first : BusRequest) → IsBehind levels next other → request_precedes levels first next ≡ true
     → IsBehind levels first other
 behind-later levels next other first behind before =
     elim behind [
       | inl same ↦
           elim (before-cases levels first next before) [
             | inl earlier ↦
-                inr (inl (subst (λ (r : BusRequest). stands_before levels first.level r.level ≡ true) (sym same) earlier))
+                inr (inl (subst (λ (r : BusRequest). level_precedes levels first.level r.level ≡ true) (sym same) earlier))
             | inr lower ↦
                 inr (inr (ap (λ r. r.level) same ∙ sym lower.0, subst (λ (r : BusRequest). first.slot < r.slot) (sym same) lower.1))
           ]
       | inr (inl later) ↦
           elim (before-cases levels first next before) [
             | inl earlier ↦ inr (inl (before-transitive levels first.level next.level other.level earlier later))
-            | inr same ↦ inr (inl (ap (λ l. stands_before levels l other.level) same.0 ∙ later))
+            | inr same ↦ inr (inl (ap (λ l. level_precedes levels l other.level) same.0 ∙ later))
           ]
       | inr (inr later) ↦
           elim (before-cases levels first next before) [
-            | inl earlier ↦ inr (inl (ap (stands_before levels first.level) later.0 ∙ earlier))
+            | inl earlier ↦ inr (inl (ap (level_precedes levels first.level) later.0 ∙ earlier))
             | inr lower ↦ inr (inr (later.0 ∙ sym lower.0, omega (arith, lower.1, later.1)))
           ]
     ]
@@ -128,12 +128,12 @@ find-found test (x ∷ xs) next found =
 
 -- if no request of a list precedes a request, each is behind it
 behind_all : (first : ℕ) (next : BusRequest) (xs : List BusRequest) → first < 4 → is_level next.level ≡ true
-    → All (λ r. is_level r.level ≡ true) xs → All (λ x. goes_before (level_order first) x next ≡ false) xs
+    → All (λ r. is_level r.level ≡ true) xs → All (λ x. request_precedes (level_order first) x next ≡ false) xs
     → All (IsBehind (level_order first) next) xs
 behind_all first next [] first< next_ok levels_ok fails = All-nil (IsBehind (level_order first) next)
 behind_all first next (x ∷ xs) first< next_ok levels_ok fails =
     let P : BusRequest → Type 0 = λ r. is_level r.level ≡ true in
-    let F : BusRequest → Type 0 = λ r. goes_before (level_order first) r next ≡ false in
+    let F : BusRequest → Type 0 = λ r. request_precedes (level_order first) r next ≡ false in
     All-cons (IsBehind (level_order first) next) x xs
     (not_before-behind first next x first< next_ok (All-head P x xs levels_ok) (All-head F x xs fails))
     (behind_all first next xs first< next_ok (All-tail P x xs levels_ok) (All-tail F x xs fails))
@@ -142,16 +142,16 @@ behind_all first next (x ∷ xs) first< next_ok levels_ok fails =
 pub next-granted : (levels : List ℕ) (pending : List BusRequest) (next : BusRequest) → IsNext levels pending next
     → next_request levels pending ≡ Some next
 next-granted levels pending next is_next =
-    let test = λ (r : BusRequest). not (list_any (λ other. goes_before levels other r) pending) in
-    let none = list_any_none (λ other. goes_before levels other next) pending
-    (All-weaker (IsBehind levels next) (λ other. goes_before levels other next ≡ false) (behind-not_before levels next) pending is_next.first) in
+    let test = λ (r : BusRequest). not (list_any (λ other. request_precedes levels other r) pending) in
+    let none = list_any_none (λ other. request_precedes levels other next) pending
+    (All-weaker (IsBehind levels next) (λ other. request_precedes levels other next ≡ false) (behind-not_before levels next) pending is_next.first) in
     find-sole test pending next is_next.pends.0 is_next.pends.1 is_next.pends.2 (not_from_false _ none)
     (All-weaker (IsBehind levels next) (λ x. test x ≡ true → x ≡ next)
     (λ x behind passes. elim (behind-before levels next x behind) [
       | inl same ↦ same
       | inr before ↦
-          let one = list_any_at (λ other. goes_before levels other x) pending is_next.pends.0 next is_next.pends.1
-          (ap (λ r. goes_before levels r x) is_next.pends.2 ∙ before) in
+          let one = list_any_at (λ other. request_precedes levels other x) pending is_next.pends.0 next is_next.pends.1
+          (ap (λ r. request_precedes levels r x) is_next.pends.2 ∙ before) in
           absurd (false≢true (sym (not_from_true _ one) ∙ passes))
     ]) pending is_next.first)
 
@@ -159,7 +159,7 @@ next-granted levels pending next is_next =
 pub granted-pends : (levels : List ℕ) (pending : List BusRequest) (next : BusRequest) → next_request levels pending ≡ Some next
     → Contains pending next
 granted-pends levels pending next is_granted =
-    (find-found (λ (r : BusRequest). not (list_any (λ other. goes_before levels other r) pending)) pending next is_granted).0
+    (find-found (λ (r : BusRequest). not (list_any (λ other. request_precedes levels other r) pending)) pending next is_granted).0
 
 -- the request that is granted next precedes all others
 pub granted-next : (first : ℕ) (pending : List BusRequest) (next : BusRequest) → is_level first ≡ true
@@ -167,10 +167,10 @@ pub granted-next : (first : ℕ) (pending : List BusRequest) (next : BusRequest)
     → IsNext (level_order first) pending next
 granted-next first pending next first_ok levels_ok is_granted =
     let levels = level_order first in
-    let test = λ (r : BusRequest). not (list_any (λ other. goes_before levels other r) pending) in
+    let test = λ (r : BusRequest). not (list_any (λ other. request_precedes levels other r) pending) in
     let found = find-found test pending next is_granted in
     let next_ok = All-contains (λ r. is_level r.level ≡ true) pending next levels_ok found.0 in
-    let fails = each_fails (λ other. goes_before levels other next) pending (not-true _ found.1) in
+    let fails = each_fails (λ other. request_precedes levels other next) pending (not-true _ found.1) in
     record { pends = found.0; first = behind_all first next pending (ltb-true first 4 first_ok) next_ok levels_ok fails }
 
 -- a set that is not empty has a request that precedes all others
@@ -189,7 +189,7 @@ some_next first r (s ∷ pending) first_ok levels_ok =
     let P : BusRequest → Type 0 = λ r. is_level r.level ≡ true in
     let rest = some_next first s pending first_ok (All-tail P r (s ∷ pending) levels_ok) in
     let rest_ok = All-contains P (s ∷ pending) rest.0 (All-tail P r (s ∷ pending) levels_ok) rest.1.pends in
-    elim (cases_Bool (goes_before levels r rest.0)) [
+    elim (cases_Bool (request_precedes levels r rest.0)) [
       | inl before ↦ (
         r,
         record {

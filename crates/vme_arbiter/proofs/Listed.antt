@@ -5,7 +5,7 @@ use Rattle.std.specs.List.{list_any}
 use Rattle.std.proofs.lemmas.Bool.{lt-ltb, le-ltb, ne_eqb, eq-eqb, or_left, or_right, cases_order}
 use Rattle.std.proofs.lemmas.List.Elements.{All-nil, All-cons}
 use Rattle.std.proofs.lemmas.List.Folds.{list_any_none}
-use Rattle.vme_arbiter.specs.Levels.{stands_before}
+use Rattle.vme_arbiter.specs.Levels.{level_precedes}
 use Rattle.vme_arbiter.specs.Requests.{BusRequest, bus_request, next_request, with_request, without_slot, requests_from, requests_of}
 use Rattle.vme_arbiter.specs.Grants.{IsBehind}
 use Rattle.vme_arbiter.proofs.Grants.{next-granted}
@@ -128,7 +128,7 @@ contains_listed n (suc k) slot level (Some l ∷ levels) place there =
 pub record IsFirstListed (levels : List ℕ) (places : List (Option ℕ)) (slot level : ℕ) : Type 0 where
   pub there : slice_get places slot ≡ Some (Some level)
   pub lowest : (k : ℕ) → k < slot → slice_get places k ≢ Some (Some level)
-  pub earliest : (k l : ℕ) → slice_get places k ≡ Some (Some l) → (l ≡ level) ⊎ (stands_before levels level l ≡ true)
+  pub earliest : (k l : ℕ) → slice_get places k ≡ Some (Some l) → (l ≡ level) ⊎ (level_precedes levels level l ≡ true)
 
 -- the lowest slot on the first level of the order is granted next
 pub granted-listed : (levels : List ℕ) (slot level : ℕ) (places : List (Option ℕ)) → IsFirstListed levels places slot level

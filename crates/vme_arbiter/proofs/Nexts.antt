@@ -37,7 +37,7 @@ up_to_first-next first places slot level in_range is first< =
           ];
     })
 
--- if there is none up to the first level, the lowest slot on the greatest level above it is granted next
+-- if no request is on a level up to the first, the lowest slot on the greatest level above it is granted next
 above_first-next : (first : ℕ) (places : List (Option ℕ)) (slot level : ℕ) → AreInRange places → HasNone places 0 (first + 1)
     → IsGreatest places (first + 1) 4 slot level
     → next_request (level_order first) (requests_of places) ≡ Some (bus_request level slot)
@@ -60,7 +60,7 @@ above_first-next first places slot level in_range none is =
           ];
     })
 
--- if there is none up to the first level, the request that is found above it, if any, is granted next
+-- if no request is on a level up to the first, the request that is found above it, if any, is granted next
 pub later-next : (first : ℕ) (places : List (Option ℕ)) (found : Option Request) → AreInRange places → HasNone places 0 (first + 1)
     → MatchOption found (HasNone places (first + 1) 4) (λ next. IsGreatest places (first + 1) 4 next.slot next.level)
     → option_map (λ (next : Request). bus_request next.level next.slot) found ≡ next_request (level_order first) (requests_of places)

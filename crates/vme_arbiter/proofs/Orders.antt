@@ -2,42 +2,42 @@
 use Rattle.std.proofs.Common.{◌≡◌, ◌≢◌, ℕ, ◌<◌, ◌≤◌, zero, suc, Bool, true, false, not, ◌&&◌, ◌||◌, List, [], ◌∷◌, ap, sym, ◌∙◌, refl, arith, eqb, ltb, inl, inr, ◌⊎◌}
 use Rattle.std.proofs.lemmas.Bool.{cases_Bool, lt-ltb, le-ltb, ltb-true, eqb-true, or_left, or_right, or_cases, and_from, and_parts, not_from_false, not-true, false≢true}
 use Rattle.vme_arbiter.specs.declared.kind.ArbiterKind.TheVariants.{Rotating}
-use Rattle.vme_arbiter.specs.Levels.{level_order, stands_before, levels_before, first_after}
+use Rattle.vme_arbiter.specs.Levels.{level_order, level_precedes, levels_before, first_after}
 
 -- no level precedes itself
-pub before-irreflexive : (levels : List ℕ) (a : ℕ) → stands_before levels a a ≡ false
+pub before-irreflexive : (levels : List ℕ) (a : ℕ) → level_precedes levels a a ≡ false
 before-irreflexive [] a = refl
 before-irreflexive (l ∷ levels) a =
     elim (cases_Bool (eqb l a)) [ inl same ↦ rw same refl | inr other ↦ rw other (before-irreflexive levels a) ]
 
 -- precedence is transitive
-pub before-transitive : (levels : List ℕ) (a b c : ℕ) → stands_before levels a b ≡ true → stands_before levels b c ≡ true
-    → stands_before levels a c ≡ true
+pub before-transitive : (levels : List ℕ) (a b c : ℕ) → level_precedes levels a b ≡ true → level_precedes levels b c ≡ true
+    → level_precedes levels a c ≡ true
 before-transitive [] a b c first then = cc
 before-transitive (l ∷ levels) a b c first then =
-    let ab = and_parts (not (eqb l b)) (eqb l a || stands_before levels a b) first in
-    let bc = and_parts (not (eqb l c)) (eqb l b || stands_before levels b c) then in
+    let ab = and_parts (not (eqb l b)) (eqb l a || level_precedes levels a b) first in
+    let bc = and_parts (not (eqb l c)) (eqb l b || level_precedes levels b c) then in
     let not_b : eqb l b ≡ false = not-true _ ab.0 in
-    let later : stands_before levels b c ≡ true = rw not_b at bc.1 in
-    let first_or_later : (eqb l a || stands_before levels a c) ≡ true =
-    elim (or_cases (eqb l a) (stands_before levels a b) ab.1) [
+    let later : level_precedes levels b c ≡ true = rw not_b at bc.1 in
+    let first_or_later : (eqb l a || level_precedes levels a c) ≡ true =
+    elim (or_cases (eqb l a) (level_precedes levels a b) ab.1) [
       | inl here ↦ or_left _ _ here
       | inr rest ↦ or_right _ _ (before-transitive levels a b c rest later)
     ] in
     and_from _ _ bc.0 first_or_later
 
 -- precedence is asymmetric
-pub before-asymmetric : (levels : List ℕ) (a b : ℕ) → stands_before levels a b ≡ true → stands_before levels b a ≡ false
+pub before-asymmetric : (levels : List ℕ) (a b : ℕ) → level_precedes levels a b ≡ true → level_precedes levels b a ≡ false
 before-asymmetric levels a b first =
-    elim (cases_Bool (stands_before levels b a)) [
+    elim (cases_Bool (level_precedes levels b a)) [
       | inl back ↦ absurd (false≢true (sym (before-irreflexive levels a) ∙ before-transitive levels a b a first back))
       | inr not_back ↦ not_back
     ]
 
 -- a level and one that it precedes are different
-pub before-apart : (levels : List ℕ) (a b : ℕ) → stands_before levels a b ≡ true → a ≢ b
+pub before-apart : (levels : List ℕ) (a b : ℕ) → level_precedes levels a b ≡ true → a ≢ b
 before-apart levels a b first same =
-    false≢true (sym (before-irreflexive levels b) ∙ ap (λ l. stands_before levels l b) (sym same) ∙ first)
+    false≢true (sym (before-irreflexive levels b) ∙ ap (λ l. level_precedes levels l b) (sym same) ∙ first)
 
 -- whether a test passes on each of the four levels
 all_four : (ℕ → Bool) → Bool
@@ -66,7 +66,7 @@ each_three test all f a b f< a< b< =
 
 -- whether two levels are equal, or one precedes the other
 total_at : ℕ → ℕ → ℕ → Bool
-total_at f a b = eqb a b || (stands_before (level_order f) a b || stands_before (level_order f) b a)
+total_at f a b = eqb a b || (level_precedes (level_order f) a b || level_precedes (level_order f) b a)
 
 -- all levels in range pass the test, as is computed
 total_everywhere : all_four (λ f. all_four (λ a. all_four (λ b. total_at f a b))) ≡ true
@@ -75,7 +75,7 @@ total_everywhere = refl
 
 -- two levels in range are equal, or one precedes the other
 pub before-total : (first a b : ℕ) → first < 4 → a < 4 → b < 4
-    → (a ≡ b) ⊎ ((stands_before (level_order first) a b ≡ true) ⊎ (stands_before (level_order first) b a ≡ true))
+    → (a ≡ b) ⊎ ((level_precedes (level_order first) a b ≡ true) ⊎ (level_precedes (level_order first) b a ≡ true))
 unfolding total_at
 before-total first a b first< a< b< =
     elim (or_cases _ _ (each_three total_at total_everywhere first a b first< a< b<)) [
@@ -89,7 +89,7 @@ goes_down f a b = (ltb b a && (not (ltb f a) || ltb f b)) || (not (ltb f a) && l
 
 -- whether a level that precedes another by the rule precedes it in the order
 down_at : ℕ → ℕ → ℕ → Bool
-down_at f a b = not (goes_down f a b) || stands_before (level_order f) a b
+down_at f a b = not (goes_down f a b) || level_precedes (level_order f) a b
 
 -- the rule gives the order of all levels in range, as is computed
 down_everywhere : all_four (λ f. all_four (λ a. all_four (λ b. down_at f a b))) ≡ true
@@ -97,7 +97,7 @@ unfolding all_four down_at goes_down
 down_everywhere = refl
 
 -- a level that precedes another by the rule precedes it in the order
-down-before : (first a b : ℕ) → first < 4 → a < 4 → b < 4 → goes_down first a b ≡ true → stands_before (level_order first) a b ≡ true
+down-before : (first a b : ℕ) → first < 4 → a < 4 → b < 4 → goes_down first a b ≡ true → level_precedes (level_order first) a b ≡ true
 unfolding down_at
 down-before first a b first< a< b< down =
     elim (or_cases _ _ (each_three down_at down_everywhere first a b first< a< b<)) [
@@ -106,21 +106,21 @@ down-before first a b first< a< b< down =
     ]
 
 -- up to the first level, a greater level precedes a lower one
-pub up_to_first : (first a b : ℕ) → first < 4 → b < a → a ≤ first → stands_before (level_order first) a b ≡ true
+pub up_to_first : (first a b : ℕ) → first < 4 → b < a → a ≤ first → level_precedes (level_order first) a b ≡ true
 unfolding goes_down
 up_to_first first a b first< lower within =
     down-before first a b first< (omega arith) (omega arith)
     (or_left _ _ (and_from _ _ (lt-ltb b a lower) (or_left _ _ (not_from_false _ (le-ltb first a within)))))
 
 -- a level up to the first precedes each level above the first
-pub first_before_above : (first a b : ℕ) → a ≤ first → first < b → b < 4 → stands_before (level_order first) a b ≡ true
+pub first_before_above : (first a b : ℕ) → a ≤ first → first < b → b < 4 → level_precedes (level_order first) a b ≡ true
 unfolding goes_down
 first_before_above first a b within above b< =
     down-before first a b (omega arith) (omega arith) b<
     (or_right _ _ (and_from _ _ (not_from_false _ (le-ltb first a within)) (lt-ltb first b above)))
 
 -- above the first level, a greater level precedes a lower one
-pub above_first : (first a b : ℕ) → first < b → b < a → a < 4 → stands_before (level_order first) a b ≡ true
+pub above_first : (first a b : ℕ) → first < b → b < a → a < 4 → level_precedes (level_order first) a b ≡ true
 unfolding goes_down
 above_first first a b above lower a< =
     down-before first a b (omega arith) a< (omega arith)
@@ -129,7 +129,7 @@ above_first first a b above lower a< =
 -- whether fewer levels precede a level after a rotating grant on one that preceded it
 turn_at : ℕ → ℕ → ℕ → Bool
 turn_at f granted level =
-    not (stands_before (level_order f) granted level)
+    not (level_precedes (level_order f) granted level)
     || ltb (levels_before (level_order (first_after Rotating granted)) level) (levels_before (level_order f) level)
 
 -- all levels in range pass the test of a rotating grant, as is computed
@@ -138,7 +138,7 @@ unfolding all_four turn_at
 turn_everywhere = refl
 
 -- after a rotating grant, fewer levels precede one that followed the granted level
-pub turn-nearer : (first granted level : ℕ) → first < 4 → granted < 4 → level < 4 → stands_before (level_order first) granted level ≡ true
+pub turn-nearer : (first granted level : ℕ) → first < 4 → granted < 4 → level < 4 → level_precedes (level_order first) granted level ≡ true
     → levels_before (level_order (first_after Rotating granted)) level < levels_before (level_order first) level
 unfolding turn_at
 turn-nearer first granted level first< granted< level< before =

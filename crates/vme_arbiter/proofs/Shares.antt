@@ -11,7 +11,7 @@ use Rattle.vme_arbiter.specs.declared.command.ArbCmd.{ArbCmd}
 use Rattle.vme_arbiter.specs.declared.command.ArbCmd.TheVariants.{Ask, Look, Done}
 use Rattle.vme_arbiter.specs.declared.command.ArbReply.{ArbReply}
 use Rattle.vme_arbiter.specs.declared.kind.ArbiterKind.TheVariants.{Rotating}
-use Rattle.vme_arbiter.specs.Levels.{level_order, stands_before, levels_before, first_after}
+use Rattle.vme_arbiter.specs.Levels.{level_order, level_precedes, levels_before, first_after}
 use Rattle.vme_arbiter.specs.Requests.{BusRequest, bus_request}
 use Rattle.vme_arbiter.specs.Grants.{IsBehind}
 use Rattle.vme_arbiter.specs.Arbitration.{Arbitration, holds, can_ask, lawful_ask, bus_after_release, next_of, arbiter_step}
@@ -112,7 +112,7 @@ taken_goes (Some h) bus r new later is orderly lowest leaves = (
 
 -- a grant to another request than the lowest on a level is on a level that precedes it
 granted_instead : (bus : Arbitration) (r next : BusRequest) → IsOrderly bus → IsLowest bus r → next_of bus ≡ Some next → next ≢ r
-    → stands_before (level_order bus.first) next.level r.level ≡ true
+    → level_precedes (level_order bus.first) next.level r.level ≡ true
 granted_instead bus r next orderly lowest is_next other =
     let is = granted-next bus.first bus.pending next orderly.first (levels_ok bus.pending orderly.requests) is_next in
     let P : BusRequest → Type 0 = IsBehind (level_order bus.first) next in

@@ -1,4 +1,4 @@
--- The levels of a state are in range, each of them and all together.
+-- All levels of a state are in range exactly if each of them is.
 use Rattle.std.proofs.Common.{◌≡◌, ℕ, ◌<◌, zero, suc, true, List, [], ◌∷◌, Option, Some, None, refl}
 use Rattle.std.specs.Prelude.{slice_get}
 use Rattle.std.specs.List.{list_all}

@@ -1,6 +1,6 @@
 -- The request that is granted next.
 use Rattle.std.specs.Prelude.{◌≡◌, ◌≢◌, ◌<◌, ◌≤◌, ◌⊎◌, ℕ, IsTrue, Option, Some, List, Contains, All, slice_get}
-use Rattle.vme_arbiter.specs.Levels.{stands_before}
+use Rattle.vme_arbiter.specs.Levels.{level_precedes}
 use Rattle.vme_arbiter.specs.Requests.{BusRequest}
 
 -- a request is the next one, or on a later level, or on the same level with a greater slot;
@@ -8,7 +8,7 @@ use Rattle.vme_arbiter.specs.Requests.{BusRequest}
 abbrev pub IsBehind : List ℕ → BusRequest → BusRequest → Type 0
 IsBehind levels next other =
     (other ≡ next)
-    ⊎ (IsTrue (stands_before levels next.level other.level) ⊎ ((other.level ≡ next.level) × (next.slot < other.slot)))
+    ⊎ (IsTrue (level_precedes levels next.level other.level) ⊎ ((other.level ≡ next.level) × (next.slot < other.slot)))
 
 -- a request is granted next: it is in the set, and each request of the set is itself or behind it;
 -- IEEE 1014-1987, 3.3 (arbiter and requesters)

@@ -12,13 +12,13 @@ abbrev pub level_order : ℕ → List ℕ
 level_order first = drop (3 - first) all_levels ++ take (3 - first) all_levels
 
 -- whether one level precedes another in an order of levels
-abbrev pub stands_before : List ℕ → ℕ → ℕ → Bool
-stands_before [] a b = false
-stands_before (level ∷ levels) a b = not (level == b) && (level == a || stands_before levels a b)
+abbrev pub level_precedes : List ℕ → ℕ → ℕ → Bool
+level_precedes [] a b = false
+level_precedes (level ∷ levels) a b = not (level == b) && (level == a || level_precedes levels a b)
 
 -- the number of levels that precede a level in an order of levels
 abbrev pub levels_before : List ℕ → ℕ → ℕ
-levels_before levels level = count_by (λ other. stands_before levels other level) levels
+levels_before levels level = count_by (λ other. level_precedes levels other level) levels
 
 -- the first level after a grant on a level: 3 by priority; rotating, the level below, and 3 after 0
 abbrev pub first_after : ArbiterKind → ℕ → ℕ

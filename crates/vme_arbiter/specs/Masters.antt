@@ -23,11 +23,11 @@ Frees slot e = (slot_of e.cmd ≡ slot) × (e.reply ≡ Freed)
 -- a slot has the bus at the end of a history: it has a reply Granted and no later Freed
 pub record HasTheBus (slot : ℕ) (h : List (Entry ArbCmd ArbReply)) : Type 0 where
   pub before : List (Entry ArbCmd ArbReply)
-  pub reported : Entry ArbCmd ArbReply
+  pub replied : Entry ArbCmd ArbReply
   pub since : List (Entry ArbCmd ArbReply)
-  pub whole : h ≡ before ++ reported ∷ since
-  pub names : slot_of reported.cmd ≡ slot
-  pub granted : reported.reply ≡ Granted
+  pub whole : h ≡ before ++ replied ∷ since
+  pub names : slot_of replied.cmd ≡ slot
+  pub granted : replied.reply ≡ Granted
   pub kept : All (λ e. Frees slot e → ⊥) since
 
 -- whether a slot holds and whether it waits match its last reply: Granted, it holds; Waiting, it holds or waits; Freed
@@ -40,8 +40,8 @@ IsAsReplied held pending None = (held ≡ false) × (pending ≡ false)
 IsAsReplied held pending (Some Denied) = ⊥
 
 -- a slot holds the bus or waits as its last reply states
-abbrev pub StandsAsReplied : Arbitration → ℕ → Option ArbReply → Type 0
-StandsAsReplied bus slot last = IsAsReplied (holds bus slot) (pends bus slot) last
+abbrev pub MatchesReply : Arbitration → ℕ → Option ArbReply → Type 0
+MatchesReply bus slot last = IsAsReplied (holds bus slot) (pends bus slot) last
 
 -- whether the master of a slot may give a command after its last reply: a request after none or Freed, a check after
 -- Waiting, and a release after Granted
@@ -53,13 +53,13 @@ may_give slot (Some Granted) (Done s) = s == slot
 may_give slot last cmd = false
 
 -- the master of a slot follows the replies: each of its commands is allowed after the reply before it
-abbrev pub GoesByReplies : ℕ → Option ArbReply → List (Entry ArbCmd ArbReply) → Type 0
-GoesByReplies slot last [] = Unit {0}
-GoesByReplies slot last (e ∷ h) = IsTrue (may_give slot last e.cmd) × GoesByReplies slot (Some e.reply) h
+abbrev pub SlotFollowsReplies : ℕ → Option ArbReply → List (Entry ArbCmd ArbReply) → Type 0
+SlotFollowsReplies slot last [] = Unit {0}
+SlotFollowsReplies slot last (e ∷ h) = IsTrue (may_give slot last e.cmd) × SlotFollowsReplies slot (Some e.reply) h
 
 -- the callers 0 to k - 1 are masters, each with a slot of its own, and each follows its replies
 pub record FollowReplies (k : ℕ) (slots : ℕ → ℕ) (h : List (Entry ArbCmd ArbReply)) : Type 0 where
   pub in_range : (who : ℕ) → who < k → IsTrue (is_slot (slots who))
   pub apart : (v w : ℕ) → v < k → w < k → slots v ≡ slots w → v ≡ w
   pub known : All (λ e. e.who < k) h
-  pub each : (who : ℕ) → who < k → GoesByReplies (slots who) None (own who h)
+  pub each : (who : ℕ) → who < k → SlotFollowsReplies (slots who) None (own who h)

@@ -1,7 +1,7 @@
 -- Requests for the bus, and the one that is granted next.
 use Rattle.std.specs.Prelude.{ℕ, ◌+◌, nat_lt, nat_le, Bool, not, ◌==◌, ◌&&◌, ◌||◌, List, [], ◌∷◌, if◌then◌else◌, Option, Some, None, filter, find}
 use Rattle.std.specs.List.{list_any}
-use Rattle.vme_arbiter.specs.Levels.{stands_before}
+use Rattle.vme_arbiter.specs.Levels.{level_precedes}
 
 -- a request for the bus: a slot drives the bus request line of a level;
 -- IEEE 1014-1987, 3.2 (arbitration bus lines)
@@ -23,13 +23,13 @@ is_level level = nat_lt level 4
 
 -- whether a request precedes another: by level in an order of levels, and on one level by slot on the daisy chain;
 -- IEEE 1014-1987, 3.3 (arbiter and requesters)
-abbrev pub goes_before : List ℕ → BusRequest → BusRequest → Bool
-goes_before levels a b = stands_before levels a.level b.level || (a.level == b.level && nat_lt a.slot b.slot)
+abbrev pub request_precedes : List ℕ → BusRequest → BusRequest → Bool
+request_precedes levels a b = level_precedes levels a.level b.level || (a.level == b.level && nat_lt a.slot b.slot)
 
 -- the request that is granted next, if any: no request of the set precedes it;
 -- IEEE 1014-1987, 3.3 (arbiter and requesters)
 abbrev pub next_request : List ℕ → List BusRequest → Option BusRequest
-next_request levels pending = find (λ next. not (list_any (λ other. goes_before levels other next) pending)) pending
+next_request levels pending = find (λ next. not (list_any (λ other. request_precedes levels other next) pending)) pending
 
 -- the set with one more request; the list of a set is sorted by slot
 abbrev pub with_request : BusRequest → List BusRequest → List BusRequest

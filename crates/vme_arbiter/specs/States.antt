@@ -14,10 +14,10 @@ is_level_or_none (Some level) = is_level level
 abbrev pub is_in_range : ArbiterState → Bool
 is_in_range s = is_level s.first && list_all is_level_or_none s.levels
 
--- the state of the arbitration bus that plain data stands for
+-- the state of the arbitration bus that plain data describes
 abbrev pub bus_of_state : ArbiterState → Arbitration
 bus_of_state s = arbitration s.kind s.first s.holder (requests_of s.levels)
 
--- the state of the arbitration bus that plain data stands for, if its levels are in range
+-- the state of the arbitration bus that plain data describes, if its levels are in range
 abbrev pub bus_from_state : ArbiterState → Option Arbitration
 bus_from_state s = if is_in_range s then Some (bus_of_state s) else None

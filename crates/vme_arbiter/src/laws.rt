@@ -13,7 +13,7 @@ ghost use Rattle.vme_arbiter.specs.Grants.{IsNext};
 ghost use Rattle.vme_arbiter.specs.Arbitration.{Arbitration, opening_bus, arbiter_step};
 ghost use Rattle.vme_arbiter.specs.Orderly.{IsBySlot, IsOrderly};
 ghost use Rattle.vme_arbiter.specs.Shares.{grant_of, grants_in, Waits};
-ghost use Rattle.vme_arbiter.specs.Masters.{slot_of, HasTheBus, may_give, StandsAsReplied, FollowReplies};
+ghost use Rattle.vme_arbiter.specs.Masters.{slot_of, HasTheBus, may_give, MatchesReply, FollowReplies};
 
 /// States which request is granted next: the one on the first level in the order from `first`, and
 /// on that level the one of the lowest slot. Each set of requests on levels in range that is not
@@ -44,7 +44,7 @@ pub fn pending_requests_are_a_set()
 /// States that every reachable state of an arbiter of either kind is orderly, and that each command
 /// keeps this. The first level is in range, and 3 by priority. The holder and the requests are in
 /// range, the holder has no pending request, no slot has two, and none is pending while the bus is
-/// free.
+/// free. No command changes the kind.
 pub fn states_are_orderly()
     ensures all { (kind : ArbiterKind) (h : List (Entry ArbCmd ArbReply)) →
         IsOrderly (replay arbiter_step (opening_bus kind) h) }
@@ -87,16 +87,16 @@ pub fn one_slot_has_the_bus()
 /// holds after each command: a command of the slot that is allowed after its last reply, and a
 /// command of any other slot. A slot whose last reply is `Granted` is the holder.
 pub fn replies_show_who_waits()
-    ensures opening { (kind : ArbiterKind) (slot : ℕ) → StandsAsReplied (opening_bus kind) slot None }
+    ensures opening { (kind : ArbiterKind) (slot : ℕ) → MatchesReply (opening_bus kind) slot None }
     ensures own { (bus : Arbitration) (slot : ℕ) (last : Option ArbReply) (cmd : ArbCmd) →
-        IsOrderly bus → IsTrue (is_slot slot) → StandsAsReplied bus slot last →
+        IsOrderly bus → IsTrue (is_slot slot) → MatchesReply bus slot last →
         IsTrue (may_give slot last cmd) →
-        StandsAsReplied (arbiter_step bus cmd).0 slot (Some (arbiter_step bus cmd).1) }
+        MatchesReply (arbiter_step bus cmd).0 slot (Some (arbiter_step bus cmd).1) }
     ensures other { (bus : Arbitration) (slot : ℕ) (last : Option ArbReply) (cmd : ArbCmd) →
-        slot_of cmd ≢ slot → StandsAsReplied bus slot last →
-        StandsAsReplied (arbiter_step bus cmd).0 slot last }
+        slot_of cmd ≢ slot → MatchesReply bus slot last →
+        MatchesReply (arbiter_step bus cmd).0 slot last }
     ensures holder { (bus : Arbitration) (slot : ℕ) →
-        StandsAsReplied bus slot (Some Granted) → bus.holder ≡ Some slot }
+        MatchesReply bus slot (Some Granted) → bus.holder ≡ Some slot }
 {}
 
 /// States that no reply is `Denied` if each master has a slot of its own and follows the replies.

@@ -35,7 +35,7 @@ fn at_the_put_count(task: &mut SharedTask<'_>) {
     give(task, GRANTED);
 }
 
-/// Checks that a reply ends a task as denied, and that one call more has the same outcome.
+/// Checks that a reply ends a task as denied, and that one more call has the same outcome.
 fn expect_denied(rt: &impl Abort, task: &mut SharedTask<'_>, given: Given) {
     let first = expect_end(rt, &task.next(replied(given)));
     let again = expect_end(rt, &task.next(replied(FREED)));

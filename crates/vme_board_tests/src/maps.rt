@@ -16,7 +16,7 @@ fn entry(space: Space, base: u32, size: u32) -> Entry {
     }
 }
 
-/// Returns the fault of some entries, or `None` where they make a map.
+/// Returns the fault of some entries, or `None` if they make a map.
 fn fault(alloc: Global, entries: &[Entry]) -> Option<MapFault> {
     AddressMap::new(alloc, entries).err()
 }

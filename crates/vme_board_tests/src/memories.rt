@@ -42,7 +42,7 @@ fn request_of(transfer: &Transfer) -> Request {
     }
 }
 
-/// Returns the letter that stands for a reply: `r`, `w` or `b`.
+/// Returns the letter of a reply: `r` for bytes, `w` for a write, `b` for a bus error.
 fn letter_of(reply: &Reply) -> u8 {
     match reply {
         Reply::Bytes(_) => b'r',
@@ -211,8 +211,8 @@ fn read_quad(rt: &impl Abort, addr: u32) -> BoardCmd {
     }
 }
 
-/// Commands in order to one board of 16 bytes, which reach over two words: offset, command to the
-/// local port or, where there is none, a read of four bytes over the bus, and the bytes of the
+/// Commands in order to one board of 16 bytes, whose bytes lie in two words: the offset; the
+/// command to the local port, or `None` for a read of four bytes over the bus; and the bytes of the
 /// reply, empty after a write.
 static ACROSS: [(u32, Option<Local>, &[u8]); 5] = [
     (3, Some(Local::Write(&[0xa1, 0xa2, 0xa3, 0xa4])), &[]),

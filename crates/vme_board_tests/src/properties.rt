@@ -1,5 +1,5 @@
 //! Properties of every code, strobe pattern and byte location: lines make signals that show the
-//! same lines, and bytes that are placed on lanes are picked again.
+//! same lines, and bytes that are placed on data lanes are picked again.
 use crate::support::datum;
 use std::process::Abort;
 use vme_am::Am;
@@ -36,7 +36,7 @@ fn strobes_of(pattern: u8) -> Strobes {
     }
 }
 
-/// What signals show: the code, the address, the strobes, the level of WRITE* and the lanes, and
+/// What signals show: the code, the address, the strobes, the level of WRITE*, the data lanes, and
 /// the first byte and the number of the bytes that the strobes select.
 type Seen = (Am, u32, Strobes, bool, DataLines, (u8, u8));
 
@@ -105,7 +105,7 @@ fn is_single(code: u8) -> bool {
 }
 
 /// Returns the number of cycles of a request, whether it reads, and the signals of its first cycle,
-/// or `None` where it is refused.
+/// or `None` if it is refused.
 fn planned(request: &Request) -> Option<(u16, bool, Signals)> {
     match Plan::of(request) {
         Ok(plan) => Some((plan.len(), plan.reads(), plan.signals(0))),
@@ -113,7 +113,8 @@ fn planned(request: &Request) -> Option<(u16, bool, Signals)> {
     }
 }
 
-/// Returns the bytes on the lanes of a location, or none where one of these lanes carries nothing.
+/// Returns the bytes on the data lanes of a location, or none if one of these data lanes carries
+/// nothing.
 fn carried(location: Location, lines: DataLines) -> Datum {
     if lines.carries(location) {
         pick(location, lines)
@@ -122,7 +123,7 @@ fn carried(location: Location, lines: DataLines) -> Datum {
     }
 }
 
-/// Checks that the lanes carry nothing in a read, and `bytes` in a write.
+/// Checks that the data lanes carry nothing in a read, and `bytes` in a write.
 fn check_data(rt: &impl Abort, signals: Signals, reads: bool, bytes: &[u8]) {
     let lines = signals.lines();
     if reads {
@@ -179,8 +180,8 @@ fn signals_show_what_a_request_asks_for(rt: HostRuntime) {
     }
 }
 
-/// By location, the bytes on the lanes from D31-D24 to D07-D00 if its bytes are `PUT`, by the table
-/// of byte locations. Zero stands for a lane that carries nothing.
+/// By location, the bytes on the data lanes from D31-D24 to D07-D00 if its bytes are `PUT`, by the
+/// table of byte locations. A data lane that carries nothing is zero.
 static LANES: [(Location, [u8; 4]); 10] = [
     (Location::Byte0, [0, 0, 0xa1, 0]),
     (Location::Byte1, [0, 0, 0, 0xa1]),
@@ -194,7 +195,7 @@ static LANES: [(Location, [u8; 4]); 10] = [
     (Location::Bytes12, [0, 0xa1, 0xb2, 0]),
 ];
 
-/// Returns the bytes on the lanes from D31-D24 to D07-D00, zero for a lane that carries nothing.
+/// Returns the bytes on the data lanes from D31-D24 to D07-D00, zero for one that carries nothing.
 fn lower_lanes(lines: &DataLines) -> [u8; 4] {
     let [_, _, _, _, first, second, third, last] = lines.lanes;
     [
@@ -205,7 +206,8 @@ fn lower_lanes(lines: &DataLines) -> [u8; 4] {
     ]
 }
 
-/// Checks that the first bytes of `PUT` are on these lanes at a location, and are picked again.
+/// Checks that the first bytes of `PUT` are on these data lanes at a location, and are picked
+/// again.
 fn check_lanes(rt: &impl Abort, location: Location, lanes: [u8; 4]) {
     let len = usize::from(location.len());
     assert!(rt; len <= 4);

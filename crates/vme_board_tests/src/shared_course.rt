@@ -1,4 +1,5 @@
-//! The boards of the tests, and the driver that leads a task through a list of cycles and replies.
+//! The boards of the tests of locks and mailboxes, and the driver that leads a task through a list
+//! of cycles and replies.
 use crate::support::{ASK, DONE, FREED, GRANTED, Given, LOOK, WAITING, datum, replied, signals_of};
 use std::process::Abort;
 use vme_am::Space;
@@ -120,7 +121,7 @@ impl<'a> SharedMachine for TakeTask<'a> {
 }
 
 /// Checks that a task's next step is this command to the arbiter.
-pub fn expect_turn(rt: &impl Abort, todo: &SharedTodo, wanted: ArbCmd) {
+pub fn expect_arb_command(rt: &impl Abort, todo: &SharedTodo, wanted: ArbCmd) {
     match todo {
         SharedTodo::Call(Event::Bus(cmd)) => assert_eq!(rt; *cmd, wanted),
         _ => panic!(rt; "no command to the arbiter"),
@@ -154,10 +155,10 @@ fn lead(
     cycle: Cycle,
     answered: Given,
 ) {
-    expect_turn(rt, &task.call(replied(given)), ASK);
-    expect_turn(rt, &task.call(replied(WAITING)), LOOK);
+    expect_arb_command(rt, &task.call(replied(given)), ASK);
+    expect_arb_command(rt, &task.call(replied(WAITING)), LOOK);
     expect_cycle(rt, &task.call(replied(GRANTED)), cycle);
-    expect_turn(rt, &task.call(replied(answered)), DONE);
+    expect_arb_command(rt, &task.call(replied(answered)), DONE);
 }
 
 /// Leads a task of slot 2 on level 3 through its cycles, each a transfer of its own, and returns

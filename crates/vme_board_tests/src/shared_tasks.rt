@@ -288,7 +288,7 @@ const LAST: Mailbox = Mailbox {
     slots: 2,
 };
 
-/// A mailbox whose last word lies outside the short space.
+/// A mailbox whose last word is outside the short space.
 const BEHIND: Mailbox = Mailbox {
     am: 0x29,
     addr: 0xffe8,

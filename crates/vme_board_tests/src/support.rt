@@ -1,5 +1,5 @@
-//! What the tests of boards share: memories, data, maps, replies given by hand, and the trait of
-//! objects.
+//! Functions that the tests of boards share: they make memories, data, maps and replies, and call
+//! objects through their trait.
 use std::alloc::Global;
 use std::process::Abort;
 use vme_arbiter::{ArbCmd, ArbReply};
@@ -10,7 +10,7 @@ use vme_lanes::Datum;
 use vme_memory::{ByteMemory, Class, Reply, Width8To32};
 use vme_object::Object;
 
-/// A board that answers every cycle.
+/// A slave of 32 data lines that responds to all kinds of transfers.
 pub const WHOLE: Class = Class {
     width: Width8To32::D32,
     uat: true,
@@ -18,7 +18,7 @@ pub const WHOLE: Class = Class {
     rmw: true,
 };
 
-/// A board with 16 data lines and no switch on.
+/// A slave of 16 data lines without unaligned transfers, block transfers or read-modify-writes.
 pub const NARROW: Class = Class {
     width: Width8To32::D16,
     uat: false,
@@ -63,27 +63,27 @@ pub const DONE: ArbCmd = ArbCmd::Done { slot: 2 };
 #[derive(Clone, Copy, Debug, PartialEq, Eq)]
 pub enum Given {
     Nothing,
-    Turn(ArbReply),
+    FromArbiter(ArbReply),
     /// Bytes that a board has read.
     Bytes(&'static [u8]),
-    /// That a board has written its bytes.
+    /// A board has written its bytes.
     Done,
     Berr,
 }
 
-pub const WAITING: Given = Given::Turn(ArbReply::Waiting);
+pub const WAITING: Given = Given::FromArbiter(ArbReply::Waiting);
 
-pub const GRANTED: Given = Given::Turn(ArbReply::Granted);
+pub const GRANTED: Given = Given::FromArbiter(ArbReply::Granted);
 
-pub const FREED: Given = Given::Turn(ArbReply::Freed);
+pub const FREED: Given = Given::FromArbiter(ArbReply::Freed);
 
-pub const DENIED: Given = Given::Turn(ArbReply::Denied);
+pub const DENIED: Given = Given::FromArbiter(ArbReply::Denied);
 
-/// Returns the reply that `given` stands for.
+/// Returns the reply that `given` describes, or `None` for no reply.
 pub fn replied(given: Given) -> Option<EventReply> {
     match given {
         Given::Nothing => None,
-        Given::Turn(turn) => Some(EventReply::Bus(turn)),
+        Given::FromArbiter(arb_reply) => Some(EventReply::Bus(arb_reply)),
         Given::Bytes(bytes) => Some(EventReply::Board(Reply::Bytes(datum(bytes)))),
         Given::Done => Some(EventReply::Board(Reply::Done)),
         Given::Berr => Some(EventReply::Board(Reply::Berr)),

@@ -70,7 +70,7 @@ fn check_lent(rt: &impl Abort, task: &Task<'_>, wanted: OutcomeRef<'static>) {
     assert_eq!(rt; task.outcome(), Some(wanted));
 }
 
-/// Checks an outcome that a task has given up.
+/// Checks an outcome that a task has returned.
 fn check_taken(rt: &impl Abort, outcome: &Option<Outcome>, wanted: OutcomeRef<'static>) {
     let lent = match outcome {
         Some(outcome) => Some(borrowed(outcome)),
@@ -94,7 +94,7 @@ fn borrowed(outcome: &Outcome) -> OutcomeRef<'_> {
 }
 
 /// Leads a task through replies and steps, and checks its outcome. The task lends the outcome
-/// before and after one call more, and then gives it up.
+/// before and after one more call, and then returns it.
 fn check(rt: &impl Abort, mut task: Task<'_>, course: Course, wanted: OutcomeRef<'static>) {
     lead(rt, &mut task, course);
     check_lent(rt, &task, wanted);

@@ -1,5 +1,5 @@
--- How long a processor has waited for the bus, and how that changes when it waits and gets the bus.
-use Rattle.std.specs.Prelude.{ℕ, ◌+◌, ◌-◌, ◌^◌, ◌==◌, ◌&&◌, Bool, nat_lt, nat_le, min, if◌then◌else◌, vec_len}
+-- How long a processor has waited for the bus, and how that changes when it waits, gets the bus and releases it.
+use Rattle.std.specs.Prelude.{ℕ, ◌+◌, ◌-◌, ◌^◌, ◌==◌, ◌&&◌, Bool, true, false, nat_lt, nat_le, min, if◌then◌else◌, vec_len}
 use Rattle.std.specs.Int.{is_power_of_two}
 use Rattle.vme_bus_wait.specs.declared.wait_state.WaitState.{WaitState}
 use Rattle.vme_bus_wait.specs.declared.waiters.BusWaiters.{BusWaiters}
@@ -16,13 +16,17 @@ rounds_of state = state.rounds
 abbrev pub still_rounds_of : WaitState → ℕ
 still_rounds_of state = state.still
 
+-- whether the processor waited for the bus that it has now
+abbrev pub has_waited : WaitState → Bool
+has_waited state = state.has_waited
+
 -- a count of rounds plus one, at most the greatest number of 32 bits
 abbrev pub one_more : ℕ → ℕ
 one_more n = min (n + 1) (2 ^ 32 - 1)
 
--- a processor that does not wait
-abbrev pub at_rest : WaitState
-at_rest = record { rounds = 0; still = 0 }
+-- a processor that does not wait, and whether it waited for the bus that it has now
+abbrev pub at_rest : Bool → WaitState
+at_rest waited = record { rounds = 0; still = 0; has_waited = waited }
 
 -- the processor in one more round
 abbrev pub in_next_round : WaitState → WaitState
@@ -44,10 +48,14 @@ is_time_to_wake still = nat_le 8 still && is_power_of_two still
 abbrev pub may_sleep : WaitState → Bool
 may_sleep state = nat_lt 16 (rounds_of state) && (still_rounds_of state == 0)
 
--- whether a processor may sleep as the last one: the bus was not released in the last 64 rounds
+-- whether a processor may sleep although no other waits awake: the bus was not released in the last 64 rounds
 abbrev pub may_sleep_as_last : WaitState → Bool
 may_sleep_as_last state = nat_le 64 (still_rounds_of state)
 
 -- the processor after it got the bus
 abbrev pub granted : WaitState → WaitState
-granted state = if rounds_of state == 0 then state else at_rest
+granted state = if rounds_of state == 0 then state else at_rest true
+
+-- one of so many processors after it released the bus; one that is alone never waits
+abbrev pub released : ℕ → WaitState → WaitState
+released count state = if nat_lt count 2 then state else record state { has_waited = false }

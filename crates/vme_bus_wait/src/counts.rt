@@ -1,12 +1,13 @@
 use crossbeam_utils::CachePadded;
-use std::sync::atomic::{AtomicU64, Ordering};
+use std::sync::atomic::{AtomicBool, AtomicU64, Ordering};
 
-/// The values that all processors share, each on a cache line of its own.
+/// The counts and the mark that all processors share, each on a cache line of its own.
 #[derive(Drop)]
 pub(crate) struct Counts {
     releases: CachePadded<AtomicU64>,
     awake: CachePadded<AtomicU64>,
     asleep: CachePadded<AtomicU64>,
+    aside: CachePadded<AtomicBool>,
 }
 
 impl Counts {
@@ -15,6 +16,7 @@ impl Counts {
             releases: CachePadded::new(AtomicU64::new(0)),
             awake: CachePadded::new(AtomicU64::new(0)),
             asleep: CachePadded::new(AtomicU64::new(0)),
+            aside: CachePadded::new(AtomicBool::new(false)),
         }
     }
 
@@ -56,5 +58,15 @@ impl Counts {
     /// Counts one processor fewer that sleeps.
     pub(crate) fn remove_asleep(&self) {
         self.asleep.fetch_sub(1, Ordering::SeqCst);
+    }
+
+    /// Marks one of two processors as deferring to the other. Returns whether one already defers.
+    pub(crate) fn step_aside(&self) -> bool {
+        self.aside.swap(true, Ordering::SeqCst)
+    }
+
+    /// Marks that neither of two processors defers to the other.
+    pub(crate) fn step_back(&self) {
+        self.aside.store(false, Ordering::SeqCst);
     }
 }

@@ -31,7 +31,7 @@ impl Sleeper {
     }
 
     /// Sleeps until the processor is woken, unless it was woken since `mark_asleep`. A sleep ends
-    /// after `LONGEST` milliseconds at the latest, so no wake is required.
+    /// after `LONGEST` milliseconds at the latest, even if no processor wakes it.
     pub(crate) fn sleep<R: Wait>(&self, rt: &R) {
         self.word
             .park_timeout(rt, ASLEEP as u32, Duration::from_millis(LONGEST));

@@ -1,5 +1,5 @@
-//! Tests: three processors that wait for each other in rotation, one that waits long, and one that
-//! another wakes.
+//! Tests: three processors that use the bus in rotation, one that waits for 300 milliseconds, and
+//! one that sleeps until another wakes it.
 use crate::wait_state::WaitState;
 use crate::waiters::BusWaiters;
 use std::sync::Wait;
@@ -13,7 +13,7 @@ use std::{io, thread};
 const TURNS: u64 = 1000;
 
 /// Proceeds `TURNS` times; among three processors, each proceeds after the previous one.
-fn take_turns<R: Wait>(rt: &R, waiters: &BusWaiters, turn: &AtomicU64, who: usize) {
+fn proceed_in_rotation<R: Wait>(rt: &R, waiters: &BusWaiters, turn: &AtomicU64, who: usize) {
     let mut wait_state = WaitState::new();
     for round in 0..TURNS {
         let mine = round.wrapping_mul(3).wrapping_add(who as u64);
@@ -26,27 +26,27 @@ fn take_turns<R: Wait>(rt: &R, waiters: &BusWaiters, turn: &AtomicU64, who: usiz
         }
         waiters.leave(&mut wait_state);
         turn.fetch_add(1, Ordering::SeqCst);
-        waiters.release();
+        waiters.release(&mut wait_state);
     }
 }
 
-/// Runs `take_turns` for three processors, each on a thread.
+/// Runs `proceed_in_rotation` for three processors, each on a thread.
 fn three<R: Threads + Wait + Sync>(rt: &R, waiters: &BusWaiters, turn: &AtomicU64) {
     join(
         rt,
-        || take_turns(rt, waiters, turn, 0),
+        || proceed_in_rotation(rt, waiters, turn, 0),
         || {
             join(
                 rt,
-                || take_turns(rt, waiters, turn, 1),
-                || take_turns(rt, waiters, turn, 2),
+                || proceed_in_rotation(rt, waiters, turn, 1),
+                || proceed_in_rotation(rt, waiters, turn, 2),
             )
         },
     );
 }
 
 #[test]
-fn three_take_turns(rt: HostRuntime) -> Result<(), Fail> {
+fn three_proceed_in_rotation(rt: HostRuntime) -> Result<(), Fail> {
     let waiters = BusWaiters::new(rt.alloc(), 3)?;
     let turn = AtomicU64::new(0);
     three(&rt, &waiters, &turn);
@@ -77,7 +77,7 @@ fn rounds_until<R: Wait>(rt: &R, waiters: &BusWaiters, sign: &AtomicBool, who: u
 fn hold<R: Clock>(rt: &R, waiters: &BusWaiters, sign: &AtomicBool) {
     thread::sleep(rt, Duration::from_millis(HELD));
     sign.store(true, Ordering::SeqCst);
-    waiters.release();
+    waiters.release(&mut WaitState::new());
 }
 
 /// Returns the number of rounds that one processor waits while the other holds the bus.
@@ -160,10 +160,10 @@ fn wake<R: Wait + Clock>(rt: &R, waiters: &BusWaiters, sign: &AtomicBool, waking
     }
     thread::sleep(rt, Duration::from_millis(1));
     sign.store(true, Ordering::SeqCst);
+    let mut wait_state = WaitState::new();
     match waking {
-        Waking::Release => waiters.release(),
+        Waking::Release => waiters.release(&mut wait_state),
         Waking::StillRounds => {
-            let mut wait_state = WaitState::new();
             for _ in 0..STILL_ROUNDS {
                 waiters.wait(rt, 1, waiters.releases(), &mut wait_state);
             }

@@ -1,8 +1,9 @@
-ghost use Rattle.std.specs.Prelude.{◌≡◌, nat_lt};
+ghost use Rattle.std.specs.Prelude.{◌≡◌, false, true, nat_lt};
 ghost use Rattle.vme_bus_wait.specs.Waits.{
   after_no_release,
   after_release,
   at_rest,
+  has_waited,
   in_next_round,
   is_time_to_wake,
   may_sleep,
@@ -10,6 +11,8 @@ ghost use Rattle.vme_bus_wait.specs.Waits.{
   rounds_of,
   still_rounds_of,
 };
+
+use std::mem;
 
 /// The number of rounds after which a waiting processor may sleep, if the bus was released in the
 /// last one.
@@ -28,17 +31,39 @@ const LONG_STILL_ROUNDS: u32 = 64;
 pub struct WaitState {
     rounds: u32,
     still: u32,
+    has_waited: bool,
 }
 
 impl WaitState {
     /// Returns the state of a processor that does not wait.
     pub fn new() -> WaitState
-        ensures { result ≡ at_rest }
+        ensures { result ≡ at_rest false }
     {
         WaitState {
             rounds: 0,
             still: 0,
+            has_waited: false,
         }
+    }
+
+    /// Records that the processor got the bus after a wait.
+    pub(crate) fn end(&mut self)
+        ensures { self.new ≡ at_rest true }
+    {
+        *self = WaitState {
+            rounds: 0,
+            still: 0,
+            has_waited: true,
+        };
+    }
+
+    /// Returns whether the processor waited for the bus that it now releases, and clears that mark.
+    #[inline(always)]
+    pub(crate) fn take_has_waited(&mut self) -> bool
+        ensures result { result ≡ has_waited self.old }
+        ensures cleared { self.new ≡ record self.old { has_waited = false } }
+    {
+        mem::replace(&mut self.has_waited, false)
     }
 
     /// Returns whether the processor waits.
@@ -63,8 +88,8 @@ impl WaitState {
         self.rounds > AWAKE_ROUNDS && self.still == 0
     }
 
-    /// Returns whether the processor may sleep as the last one: the bus was not released in the
-    /// last 64 rounds.
+    /// Returns whether the processor may sleep although no other one waits awake: the bus was not
+    /// released in the last 64 rounds.
     pub(crate) fn is_spent(&self) -> bool
         ensures { result ≡ may_sleep_as_last self.now }
     {

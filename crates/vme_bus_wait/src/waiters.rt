@@ -1,8 +1,10 @@
 ghost use Rattle.std.specs.Prelude.{◌≡◌, ◌<◌, ◌⊎◌, nat_lt, IfOk, IfSome};
 ghost use Rattle.vme_bus_wait.specs.Waits.{
   granted,
+  has_waited,
   one_more,
   processors_of,
+  released,
   rounds_of,
   still_rounds_of,
 };
@@ -19,15 +21,23 @@ const PAUSES: u32 = 64;
 
 /// With this many processors, at most one waits at a time, so awake processors are not counted.
 /// With fewer, none ever waits.
-const ALONE: usize = 2;
+const PAIR: usize = 2;
+
+/// The number of times that a processor that defers to the other polls for that one's releases.
+const LOOKS_ASIDE: u32 = 16;
+
+/// The number of pauses before each poll of a processor that defers. Each poll delays the other
+/// processor by a cache line transfer.
+const PAUSES_ASIDE: u32 = 32;
 
 /// The state that the processors of one bus share while they wait for it. A waiting processor polls
 /// this state before it asks the arbiter again, so that it does not contend with the processors
 /// that use the bus.
 ///
-/// A processor that waits long sleeps. While the bus passes from processor to processor, one
-/// waiting processor stays awake. It notices when releases stop, and wakes the others, because one
-/// of them may have got the bus. If no release follows for long, the last one sleeps too.
+/// A processor that has waited for many rounds sleeps. While the bus passes from processor to
+/// processor, one waiting processor stays awake. After several rounds without a release it wakes
+/// the others, because the arbiter may have granted the bus to one of them. After 64 such rounds it
+/// sleeps too.
 #[derive(Drop)]
 pub struct BusWaiters {
     pub(crate) counts: Counts,
@@ -58,16 +68,22 @@ impl BusWaiters {
         self.counts.releases()
     }
 
-    /// Records that a processor released the bus. If processors wait and all of them sleep, it
-    /// wakes one of them.
+    /// Records that the processor released the bus. If processors wait and all of them sleep, it
+    /// wakes one of them. If there are two processors and this one had to wait for the bus, it
+    /// defers to the other for at most 16 polls.
     #[inline(always)]
-    pub fn release(&self) {
-        if self.sleepers.len() < ALONE {
+    pub fn release(&self, wait_state: &mut WaitState)
+        ensures { wait_state.new ≡ released (processors_of self.now) wait_state.old }
+    {
+        if self.sleepers.len() < PAIR {
             return;
         }
         self.counts.add_release();
         if self.counts.asleep() > 0 && self.counts.awake() == 0 {
             self.wake_first();
+        }
+        if wait_state.take_has_waited() && !self.counts_awake() {
+            self.stand_aside();
         }
     }
 
@@ -80,6 +96,7 @@ impl BusWaiters {
         ensures rounds { rounds_of wait_state.new ≡ one_more (rounds_of wait_state.old) }
         ensures still { (still_rounds_of wait_state.new ≡ 0)
             ⊎ (still_rounds_of wait_state.new ≡ one_more (still_rounds_of wait_state.old)) }
+        ensures waited { has_waited wait_state.new ≡ has_waited wait_state.old }
     {
         if !wait_state.has_begun() {
             self.add_awake();
@@ -102,16 +119,41 @@ impl BusWaiters {
     {
         if wait_state.has_begun() {
             self.remove_awake();
-            *wait_state = WaitState::new();
+            wait_state.end();
         }
     }
 
-    /// Returns whether more than one processor may wait at a time, so that awake ones are counted.
+    /// Defers to the other of two processors until no release follows within one poll, for at most
+    /// `LOOKS_ASIDE` polls. Returns at once if the other one defers too. A change of the bus
+    /// between threads takes longer than a transfer, so one processor makes several transfers
+    /// before the other does.
+    #[cold]
+    #[inline(never)]
+    fn stand_aside(&self) {
+        if self.counts.step_aside() {
+            return;
+        }
+        let mut seen = self.releases();
+        for _ in 0..LOOKS_ASIDE {
+            for _ in 0..PAUSES_ASIDE {
+                hint::spin_loop();
+            }
+            let releases = self.releases();
+            if releases == seen {
+                break;
+            }
+            seen = releases;
+        }
+        self.counts.step_back();
+    }
+
+    /// Returns whether more than one processor may wait at a time. Only then are awake processors
+    /// counted.
     #[inline(always)]
     fn counts_awake(&self) -> bool
         ensures { result ≡ nat_lt 2 (processors_of self.now) }
     {
-        self.sleepers.len() > ALONE
+        self.sleepers.len() > PAIR
     }
 
     /// Counts one more processor that waits awake, if awake processors are counted.

@@ -1,7 +1,7 @@
 -- The bytes of a reader with a byte model.
 use Rattle.std.proofs.Common.{◌≡◌, ℕ, List, Option, Some, None, IfSome, subst, sym}
 
--- what holds of the bytes that were read holds of those of the byte model, if there is one
+-- a property of the bytes that were read is one of the bytes of the byte model, if there is one
 pub of_input : (P : List ℕ → Type 0) (model : Option (List ℕ)) (input : List ℕ) → IfSome model (λ bytes. bytes ≡ input) → P input
     → IfSome model P
 of_input P None input same holds = tt

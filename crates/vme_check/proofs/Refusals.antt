@@ -31,13 +31,13 @@ no_refusal (causes.RequestLine cause) warning = cc
 no_refusal (causes.RequestCycle cause) warning = cc
 no_refusal causes.RequestBoard warning = refl
 
--- a configuration is the answer where no refusal is
+-- for an input that is a configuration, no refusal is the answer
 without_refusal : (input : List ℕ) (config : Configuration) → Configures input config → (refusal : Option ConfigFault)
     → is_none refusal ≡ true → IsAnswer input refusal
 without_refusal input config configures None none = (config, configures)
 without_refusal input config configures (Some fault) none = cc
 
--- the first of warnings alone has no refusal
+-- for an input that is a configuration, warnings alone have the right first refusal, none
 of_warnings : (input : List ℕ) (config : Configuration) → Configures input config → (findings : List Finding)
     → list_all is_warning findings ≡ true → IsAnswer input (first_refusal findings)
 of_warnings input config configures [] all = (config, configures)
@@ -45,7 +45,7 @@ of_warnings input config configures (finding ∷ more) all =
     without_refusal input config configures (refusal_of finding.cause)
     (no_refusal finding.cause (first_true (is_warning finding) (list_all is_warning more) all))
 
--- the first finding has the refusal of the verdict, if it is one
+-- if findings agree with the verdict on an input, their first refusal is the answer
 of_verdict : (input : List ℕ) (findings : List Finding) (verdict : Result Configuration ConfigFault) → IsVerdict input verdict
     → Agree findings verdict → IsAnswer input (first_refusal findings)
 of_verdict input findings (Ok config) configures agree = of_warnings input config configures findings agree

@@ -1,4 +1,4 @@
--- The refusals of request lines, one line more.
+-- The refusals of request lines, when the findings of one line more are added.
 use Rattle.std.proofs.Common.{◌≡◌, ◌∙◌, ap, sym, List, [], ◌∷◌, ◌++◌, option_to_list}
 use Rattle.std.proofs.lemmas.List.{append_assoc, append-nil}
 use Rattle.vme_findings.specs.declared.finding.Finding.{Finding}
@@ -6,7 +6,7 @@ use Rattle.vme_findings.specs.declared.request_line.RequestRefusal.{RequestRefus
 use Rattle.vme_findings.specs.Requests.{refusal_by}
 use Rattle.vme_check.specs.Requests.{refusals_by}
 
--- the refusals of findings and one more
+-- with one finding appended, its refusal, if it has one, follows those of the others
 pub one_more : (found : List Finding) (finding : Finding)
     → refusals_by (found ++ finding ∷ []) ≡ refusals_by found ++ option_to_list (refusal_by finding.cause)
 one_more [] finding = append-nil (option_to_list (refusal_by finding.cause))

@@ -1,4 +1,4 @@
--- What `vme` answers to the bytes of a file.
+-- The refusal that `vme` has for the bytes of a file.
 use Rattle.std.specs.Prelude.{ℕ, List, Option, Some, None}
 use Rattle.vme_script.specs.declared.fault.ConfigFault.{ConfigFault}
 use Rattle.vme_script.specs.Configurations.{Configuration}

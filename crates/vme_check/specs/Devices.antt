@@ -1,4 +1,4 @@
--- The state of a reader that keeps the reason of its failure.
+-- The state of a reader that keeps the error of a failed read.
 use Rattle.std.specs.Prelude.{Bool, is_some}
 use Rattle.vme_check.specs.declared.device.InputReader.{InputReader}
 

@@ -10,7 +10,7 @@ abbrev pub refusals_of : List (List ℕ) → List RequestRefusal
 refusals_of [] = []
 refusals_of (line ∷ more) = option_to_list (request_refusal (request_of line)) ++ refusals_of more
 
--- the refusals that findings stand for, in their order
+-- the refusals of findings, in their order
 abbrev pub refusals_by : List Finding → List RequestRefusal
 refusals_by [] = []
 refusals_by (finding ∷ more) = option_to_list (refusal_by finding.cause) ++ refusals_by more

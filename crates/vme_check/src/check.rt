@@ -25,10 +25,11 @@ pub struct CheckEnd {
     pub refusal: Option<ConfigFault>,
 }
 
-/// Finds the faults and warnings of a configuration file, and prints them as the form says.
+/// Finds the faults and warnings of a configuration file, and prints them as the form says. Returns
+/// how many there are, and the refusal of the file.
 ///
 /// The engine first reads the input, to its end or to one byte past `FILE_LIMIT`; it prints nothing
-/// before that. The text of the findings is not stated.
+/// before that. The contract does not state the text of the findings.
 ///
 /// # Errors
 ///
@@ -56,7 +57,7 @@ pub fn check_engine<R: Source, W: Sink>(
     Ok(end)
 }
 
-/// Finds the faults and warnings of a text, and prints them.
+/// Finds the faults and warnings of a configuration file's text, and prints them.
 #[tactic(auto, using(crate::proofs::Refusals::answered))]
 fn check_text<W: Sink>(
     alloc: Global,
@@ -87,7 +88,7 @@ fn check_text<W: Sink>(
     Ok(CheckEnd { counts, refusal })
 }
 
-/// The refusal of a file whose findings these are.
+/// Returns the refusal of a file with these findings, or `None` if the file is a configuration.
 fn refusal_of(findings: &[Finding]) -> Option<ConfigFault>
     ensures { result ≡ first_refusal findings.now }
 {

@@ -1,4 +1,4 @@
-//! What the text of a finding may cite of the file.
+//! The parts of an input that the text of a finding may quote.
 use crate::located::{Input, Located};
 use memchr::memrchr;
 use std::alloc::Global;
@@ -8,10 +8,10 @@ use vme_findings::Place;
 /// than a line may have.
 const LINE_REACH: usize = 128;
 
-/// The number of bytes of a line that a text may cite.
+/// The number of bytes of a line that the text of a finding may quote.
 const LINE_START: usize = 80;
 
-/// What the text of a finding may cite.
+/// The parts of an input that the text of a finding may quote.
 #[derive(Clone, Copy)]
 pub(crate) struct Context<'a> {
     pub(crate) alloc: Global,

@@ -12,11 +12,11 @@ use vme_engines::{INPUT_LIMIT, ProgramFault, read_input};
 use vme_io::{Sink, Source};
 use vme_report::RunFault;
 
-/// Finds the faults and warnings of request lines, and prints them as the form says. No cycle is
-/// made.
+/// Finds the faults and warnings of request lines, and prints them as the form says. It performs no
+/// cycle. Returns how many errors and warnings there are.
 ///
 /// The engine first reads the input, to its end or to one byte past `INPUT_LIMIT`; it prints
-/// nothing before that. The text of the findings is not stated.
+/// nothing before that. The contract does not state the text of the findings.
 ///
 /// # Errors
 ///

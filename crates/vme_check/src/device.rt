@@ -1,4 +1,4 @@
-//! A reader of std as a source that keeps the reason of its failure.
+//! A reader of std as a source of bytes that keeps the error of a failed read.
 use std::io::{Error, Read};
 use vme_io::{Failed, Source};
 
@@ -25,7 +25,7 @@ impl<T> InputReader<T> {
         }
     }
 
-    /// Returns why a read has failed, if one has.
+    /// Returns the error of a failed read, or `None` if no read has failed.
     pub fn failure(&self) -> Option<&Error>
         ensures { is_some result ≡ has_failed self.now }
     {
@@ -42,7 +42,7 @@ impl<T: Read> Source for InputReader<T> {
 
     ghost remaining = { λ _. None };
 
-    /// Reads once from the inner reader.
+    /// Reads once from the inner reader into `buffer`, and returns the number of bytes read.
     fn read(&mut self, buffer: &mut [u8]) -> Result<usize, Failed>
         requires { 0 < length buffer.old }
         ensures count { IfOk result (λ n. n ≤ length buffer.new) }

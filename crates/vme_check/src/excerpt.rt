@@ -66,7 +66,7 @@ pub(crate) fn write_excerpt(
     to.push('\n')
 }
 
-/// What stands for the characters of a line that are left out.
+/// The mark in the place of characters that are left out of a line.
 const CUT: &str = "..";
 
 fn push_cut(is_cut: bool, to: &mut String) -> Result<(), AllocError> {
@@ -143,7 +143,8 @@ fn line_start_of(text: &[u8]) -> (&[u8], bool) {
     }
 }
 
-/// Which characters of a line are shown: all of a short line, and else those around the place.
+/// The range of the characters of a line that are shown: all of a short line, otherwise those
+/// around the place.
 fn window_of(shown: &Shown) -> Range<usize> {
     let count = shown.chars.len();
     if count <= WHOLE && !shown.is_cut_before && !shown.is_cut_after {

@@ -1,8 +1,8 @@
-//! What is printed of findings, and how many there are.
+//! The form in which findings are printed, and their counts.
 use std::alloc::{AllocError, Global};
 use std::fmt::Write;
 
-/// What is printed of findings, and how.
+/// Which findings are printed, and in which form.
 #[derive(Clone, Copy, Debug, PartialEq, Eq)]
 pub struct Form {
     /// A line with a JSON object for each finding, in place of text.
@@ -15,7 +15,7 @@ pub struct Form {
     pub limit: usize,
 }
 
-/// How many findings there are.
+/// The numbers of errors and of warnings among findings.
 #[derive(Clone, Copy, Debug, PartialEq, Eq)]
 pub struct Counts {
     pub errors: usize,
@@ -29,7 +29,7 @@ impl Counts {
         warnings: 0,
     };
 
-    /// Returns the counts of two inputs together.
+    /// Returns the counts of two inputs together. A sum stops at `usize::MAX`.
     pub fn and(self, other: Counts) -> Counts {
         Counts {
             errors: self.errors.saturating_add(other.errors),
@@ -55,7 +55,7 @@ pub fn summary(alloc: Global, counts: Counts, form: &Form) -> Result<String, All
     Ok(to)
 }
 
-/// Appends a number of things.
+/// Appends a count and the word for what is counted, in the plural unless the count is 1.
 fn push_count(count: usize, thing: &str, to: &mut String) -> Result<(), AllocError> {
     let plural = if count == 1 { "" } else { "s" };
     write!(to, "{count} {thing}{plural}")

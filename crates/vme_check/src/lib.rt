@@ -1,5 +1,5 @@
 //! The engines of `bendrika check` and `bendrika cycles`: they read an input, find its faults and
-//! warnings, and print each with its line and column, its message and what helps.
+//! warnings, and print each with its line and column, its message and its help.
 //!
 //! [`check_engine`] reads a configuration file, [`request_check_engine`] request lines. Each reads a
 //! source of bytes, writes to a sink, and returns how many findings there are, or a fault.
@@ -17,8 +17,6 @@ mod plain;
 mod print;
 mod report;
 mod requests;
-#[cfg(test)]
-mod tests;
 mod texts;
 
 pub use check::{CheckEnd, check_engine};

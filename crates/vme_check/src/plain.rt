@@ -1,5 +1,5 @@
 //! A finding as text: a line with place, severity, message and code, the line of the file with
-//! carets, and what helps.
+//! carets, and the help.
 use crate::context::Context;
 use crate::excerpt::write_excerpt;
 use crate::located::{Input, Located};
@@ -37,7 +37,7 @@ pub(crate) fn write_plain(
     write_note_line(name, input, one, to)
 }
 
-/// The word for how grave a finding is.
+/// The name of a finding's severity.
 pub(crate) fn severity_name(one: &Located) -> &'static str {
     if one.is_error() { "error" } else { "warning" }
 }

@@ -11,8 +11,8 @@ use vme_io::{Sink, WRITE_SIZE, flush_if_full, write_all};
 use vme_report::RunFault;
 use vme_script::ConfigFault;
 
-/// Prints the findings of an input as the form says, and then its refusal. Returns how many
-/// findings there are. The text is gathered and written in large pieces.
+/// Prints the findings of an input as the form says, and then its refusal. Returns the counts of
+/// all its findings. The text is collected in a buffer and written in large pieces.
 pub(crate) fn print_findings<W: Sink>(
     alloc: Global,
     name: &str,
@@ -44,7 +44,7 @@ pub(crate) fn print_findings<W: Sink>(
     Ok(counts)
 }
 
-/// Gathers the text of a finding.
+/// Appends the text of a finding to the buffer, and writes the buffer if it is full.
 fn gather<W: Sink>(
     report: &mut Report<'_>,
     one: &Located,

@@ -9,7 +9,7 @@ use vme_explain::write_escaped;
 use vme_positions::Cursor;
 use vme_script::ConfigFault;
 
-/// What is printed of an input.
+/// The report of an input: how its findings and the lines after them are printed.
 #[derive(Drop)]
 pub(crate) struct Report<'a> {
     alloc: Global,
@@ -73,8 +73,8 @@ impl<'a> Report<'a> {
         Ok(to)
     }
 
-    /// Returns what is printed after the findings: how many were left out, and the refusal; as JSON
-    /// the counts and the refusal.
+    /// Returns the text after the findings: as text, how many findings were left out, and the
+    /// refusal; as JSON, the counts and the refusal.
     ///
     /// # Errors
     ///
@@ -123,7 +123,11 @@ impl<'a> Report<'a> {
     }
 }
 
-/// A name with its control characters as `\xHH`.
+/// Returns a name with each ASCII control character as `\xHH`.
+///
+/// # Errors
+///
+/// An allocation failed.
 pub fn shown_name(alloc: Global, name: &str) -> Result<String, AllocError> {
     let mut shown = String::new(alloc);
     for c in name.chars() {

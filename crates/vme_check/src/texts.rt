@@ -1,4 +1,4 @@
-//! The texts of findings: for each cause one message, and what helps.
+//! The texts of findings: for each cause a message, and for some a help.
 //!
 //! A message and a help are one line without a line end. Words of the file are quoted as
 //! [`push_quoted`](quote::push_quoted) writes them.
@@ -47,7 +47,7 @@ pub(crate) fn write_message(
     }
 }
 
-/// Appends what helps, or nothing.
+/// Appends the help of a cause, or nothing.
 ///
 /// # Errors
 ///
@@ -75,7 +75,7 @@ pub(crate) fn write_help(
 /// The offset of the other place of a finding, to which its note belongs.
 pub(crate) fn note_offset(input: &Input<'_>, one: &Located) -> Option<usize> {
     if let Cause::Document(cause) = one.finding.cause {
-        return document::note_offset(cause, input.text, one.span);
+        return document::note_offset(cause, input, one.span);
     }
     let place = one.finding.cause.other_place()?;
     Some(input.span(place).from)
@@ -88,7 +88,7 @@ pub(crate) fn note_offset(input: &Input<'_>, one: &Located) -> Option<usize> {
 /// An allocation failed.
 pub(crate) fn write_note(cause: Cause, to: &mut String) -> Result<(), AllocError> {
     match cause {
-        Cause::Document(_) => to.push_str("the string begins here"),
+        Cause::Document(cause) => document::write_note(cause, to),
         Cause::Board(cause) => board::write_note(cause, to),
         Cause::Mailbox(cause) => mailbox::write_note(cause, to),
         _ => Ok(()),

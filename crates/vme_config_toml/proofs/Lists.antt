@@ -4,7 +4,7 @@ use Rattle.toml.specs.View.{items_view}
 use Rattle.toml.specs.declared.value.Value.{Value}
 use Rattle.vme_config_toml.specs.Values.{pair_in}
 
--- a prefix of values, and then those that were read
+-- a prefix of values, followed by those that were read
 abbrev pub with_prefix : {A : Type 0} → List A → Option (List A) → Option (List A)
 with_prefix prefix read = option_map (λ xs. prefix ++ xs) read
 

@@ -6,7 +6,7 @@ use Rattle.toml.specs.View.{members_view}
 use Rattle.toml.specs.declared.value.Value.{Value}
 use Rattle.vme_config_toml.specs.Values.{has_only}
 
--- the keys of a map are known exactly if those of its members are
+-- all keys of a map are known exactly if all keys of its members are
 pub has_only_keys :
     (is_known : List ℕ → Bool) (entries : List (String Global × Value))
     → list_all (λ key. is_known (string_bytes key)) (keys_of entries) ≡ has_only is_known (members_view entries)

@@ -2,8 +2,8 @@
 
 use std::marker::Model;
 
-/// The values of a board's range: its space, base, size in bytes, and whether only supervisory
-/// codes select it.
+/// The values of a board's range: its address space, its base address, its size in bytes, and
+/// whether only supervisory codes select it.
 #[derive(Drop)]
 pub struct RangeTable<'a> {
     pub space: &'a str,

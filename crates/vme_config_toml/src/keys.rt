@@ -7,7 +7,7 @@ ghost use Rattle.vme_config_toml.specs.Keys.{is_board_key, range_values, class_v
 
 use crate::fault::DocumentFault;
 use crate::file::{BoardTable, ClassTable, FileTable, MailboxTable, RangeTable};
-use crate::values::{required_whole, text_or, truth_or, value_at, whole, whole_or};
+use crate::values::{bool_or, required_whole, str_or, value_at, whole, whole_or};
 use std::alloc::Global;
 use toml::{Table, Value};
 
@@ -62,10 +62,10 @@ fn has_file_keys(table: &Table) -> bool
 fn range_values(table: &Table) -> Option<RangeTable<'_>>
     ensures { result ≡ range_values (table_view table.now) }
 {
-    let space = text_or(table, "space", "a32")?;
+    let space = str_or(table, "space", "a32")?;
     let base = required_whole(table, "base")?;
     let size = required_whole(table, "size")?;
-    let supervisory = truth_or(table, "supervisory", false)?;
+    let supervisory = bool_or(table, "supervisory", false)?;
     Some(RangeTable {
         space,
         base,
@@ -81,9 +81,9 @@ fn class_values(table: &Table) -> Option<ClassTable>
     ensures { result ≡ class_values (table_view table.now) }
 {
     let width = whole_or(table, "width", 32)?;
-    let uat = truth_or(table, "uat", width == 32)?;
-    let blt = truth_or(table, "blt", true)?;
-    let rmw = truth_or(table, "rmw", true)?;
+    let uat = bool_or(table, "uat", width == 32)?;
+    let blt = bool_or(table, "blt", true)?;
+    let rmw = bool_or(table, "rmw", true)?;
     Some(ClassTable {
         width,
         uat,
@@ -92,7 +92,7 @@ fn class_values(table: &Table) -> Option<ClassTable>
     })
 }
 
-/// The values of a table `board`; `None` if a key or a value of it is faulty.
+/// Returns the values of a table `board`, or `None` if one of its keys or values is faulty.
 #[tactic(auto, unfolding(crate::specs::Keys::board_values))]
 fn board_values(table: &Table) -> Option<BoardTable<'_>>
     ensures { result ≡ board_values (table_view table.now) }
@@ -104,7 +104,7 @@ fn board_values(table: &Table) -> Option<BoardTable<'_>>
     let level = whole_or(table, "level", 3)?;
     let range = range_values(table)?;
     let class = class_values(table)?;
-    let script = text_or(table, "script", "")?;
+    let script = str_or(table, "script", "")?;
     Some(BoardTable {
         slot,
         level,
@@ -159,7 +159,7 @@ fn has_mailbox_keys(table: &Table) -> bool
     table.keys().all(|name| is_mailbox_key(name.as_str()))
 }
 
-/// The values of a table `mailbox`; `None` if a key or a value of it is faulty.
+/// Returns the values of a table `mailbox`, or `None` if one of its keys or values is faulty.
 #[tactic(auto, unfolding(crate::specs::Keys::mailbox_values))]
 fn mailbox_values(table: &Table) -> Option<MailboxTable>
     ensures { result ≡ mailbox_values (table_view table.now) }
@@ -203,7 +203,7 @@ fn mailboxes_of(alloc: Global, table: &Table) -> Result<Vec<MailboxTable>, Docum
     }
 }
 
-/// An array of exactly two whole numbers.
+/// Returns the two numbers of an array of exactly two whole numbers, or `None` for any other value.
 #[tactic(auto, using(crate::proofs::Lists::pair_in_others), unfolding(crate::specs::Values::pair))]
 fn pair(value: &Value) -> Option<(u32, u32)>
     ensures { result ≡ pair (view value.now) }
@@ -250,7 +250,7 @@ pub fn file_values(alloc: Global, table: &Table) -> Result<FileTable<'_>, Docume
     if !has_file_keys(table) {
         return Err(DocumentFault::BadKey);
     }
-    let arbiter = text_or(table, "arbiter", "priority").ok_or(DocumentFault::BadKey)?;
+    let arbiter = str_or(table, "arbiter", "priority").ok_or(DocumentFault::BadKey)?;
     let tries = whole_or(table, "tries", 1000).ok_or(DocumentFault::BadKey)?;
     let schedule = schedule_of(alloc, table)?;
     let rounds = whole_or(table, "rounds", 0).ok_or(DocumentFault::BadKey)?;

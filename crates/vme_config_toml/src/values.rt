@@ -7,14 +7,14 @@ ghost use Rattle.vme_config_toml.specs.Values.{whole, required, optional};
 
 use toml::{Table, Value};
 
-/// The value of `key`.
+/// Returns the value of `key`, or `None` if the table does not have the key.
 pub(crate) fn value_at<'a>(table: &'a Table, key: &str) -> Option<&'a Value>
     ensures { option_map (λ value. view value.now) result ≡ get_member key.now (table_view table.now) }
 {
     table.get(key)
 }
 
-/// A whole number from 0 to 2^32 - 1.
+/// Returns the value if it is a whole number from 0 to 2^32 - 1.
 #[tactic(auto, unfolding(crate::specs::Values::whole))]
 pub(crate) fn whole(value: &Value) -> Option<u32>
     ensures { result ≡ whole (view value.now) }
@@ -25,7 +25,7 @@ pub(crate) fn whole(value: &Value) -> Option<u32>
     }
 }
 
-/// The whole number at a required key.
+/// Returns the whole number at a required key, or `None` if the key is absent or has another value.
 #[tactic(auto, unfolding(crate::specs::Values::required))]
 pub(crate) fn required_whole(table: &Table, key: &str) -> Option<u32>
     ensures { result ≡ required whole key.now (table_view table.now) }
@@ -33,7 +33,7 @@ pub(crate) fn required_whole(table: &Table, key: &str) -> Option<u32>
     whole(value_at(table, key)?)
 }
 
-/// The whole number at `key`, or `default` if the key is absent.
+/// Returns the whole number at `key`, or `default` if the key is absent.
 #[tactic(auto, unfolding(crate::specs::Values::optional))]
 pub(crate) fn whole_or(table: &Table, key: &str, default: u32) -> Option<u32>
     ensures { result ≡ optional whole key.now default (table_view table.now) }
@@ -44,9 +44,9 @@ pub(crate) fn whole_or(table: &Table, key: &str, default: u32) -> Option<u32>
     }
 }
 
-/// The Boolean at `key`, or `default` if the key is absent.
+/// Returns the Boolean at `key`, or `default` if the key is absent.
 #[tactic(auto, unfolding(crate::specs::Values::optional))]
-pub(crate) fn truth_or(table: &Table, key: &str, default: bool) -> Option<bool>
+pub(crate) fn bool_or(table: &Table, key: &str, default: bool) -> Option<bool>
     ensures { result ≡ optional as_bool key.now default (table_view table.now) }
 {
     match value_at(table, key) {
@@ -55,9 +55,9 @@ pub(crate) fn truth_or(table: &Table, key: &str, default: bool) -> Option<bool>
     }
 }
 
-/// The string at `key`, or `default` if the key is absent.
+/// Returns the string at `key`, or `default` if the key is absent.
 #[tactic(auto, unfolding(crate::specs::Values::optional))]
-pub(crate) fn text_or<'a>(table: &'a Table, key: &str, default: &'a str) -> Option<&'a str>
+pub(crate) fn str_or<'a>(table: &'a Table, key: &str, default: &'a str) -> Option<&'a str>
     ensures { option_copied result ≡ optional as_str key.now default.now (table_view table.now) }
 {
     match value_at(table, key) {

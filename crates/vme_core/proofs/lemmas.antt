@@ -1,5 +1,5 @@
 pub mod Calls
 pub mod NextSteps
 pub mod Advances
-pub mod Dones
+pub mod RunSteps
 pub mod CountedStates

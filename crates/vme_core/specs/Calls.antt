@@ -14,8 +14,7 @@ use Rattle.vme_core.specs.declared.event.EventReply.TheVariants as replies
 use Rattle.vme_core.specs.CountedStates.{CountedState}
 use Rattle.vme_core.specs.Runs.{Machine}
 
--- a command to the memory of the board with an index, or none if the cycle stands for no command; or a command to the
--- arbiter
+-- a command to the memory of the board with an index, or none for a cycle without a command; or a command to the arbiter
 pub data Call : Type 0 where
   OnBoard : ℕ → Option Command → Call
   OnBus : ArbCmd → Call

@@ -43,7 +43,7 @@ made_of machine who target = option_and_then (λ made. slice_get made who) (coun
 pub record HasApplied (events : List (ℕ × Event)) (before after : Machine) (old new : List EventReply) : Type 0 where
   pub run : List Transition
   pub asked : events_in run ≡ events
-  pub reported : new ≡ old ++ replies_in run
+  pub replies_appended : new ≡ old ++ replies_in run
   pub did : IsRun run before after
 
 -- the number of performed events by the result: all; none; or those before one whose object can count no further step

@@ -1,4 +1,4 @@
--- What a task does next, whatever its result is.
+-- What a task does next, for any type of result.
 use Rattle.std.specs.Prelude.{Option, Some, None}
 use Rattle.vme_core.specs.Calls.{Call}
 

@@ -1,14 +1,14 @@
 //! Data of transfers as commands to a board.
-ghost use Rattle.std.specs.Prelude.{◌≡◌, ◌<◌, ◌%◌, Some, IsTrue};
+ghost use Rattle.std.specs.Prelude.{◌≡◌, ◌<◌, ◌%◌, Some};
 ghost use Rattle.vme_cycle.specs.Lawful.{IsLawfulTransfer};
-ghost use Rattle.vme_cycle.specs.Requests.{count_of, address_of, is_counted};
+ghost use Rattle.vme_cycle.specs.Requests.{count_of, address_of};
 ghost use Rattle.vme_memory.specs.Access.{accessed};
 ghost use Rattle.vme_memory.specs.Data.{datum_command};
 ghost use Rattle.vme_memory.specs.Locals.{command_given};
 ghost use Rattle.vme_core.specs.Data.{datum_cycle};
 
 use std::marker::Model;
-use vme_cycle::{Plan, Request};
+use vme_cycle::Plan;
 use vme_memory::{Access, BoardCmd, ByteMemory, Reply};
 use vme_object::Operation;
 
@@ -50,7 +50,7 @@ impl<'a> DatumCycle<'a> {
         DatumCycle { plan, i, at }
     }
 
-    /// The command, with what the lines of its cycle show.
+    /// The command, with the signals of its cycle computed.
     pub(crate) fn to_command(&self) -> BoardCmd
         ensures { result ≡ self.now }
     {
@@ -71,7 +71,7 @@ impl<'a> DatumCycle<'a> {
         ensures { command_given self.now ≡ Some (accessed result) }
     {
         prove!(self.i < self.plan.len());
-        access_of(self.plan.request(), self.i, self.at)
+        Access::of_datum(self.plan.request(), self.i, self.at)
     }
 }
 
@@ -82,36 +82,5 @@ impl Operation<ByteMemory> for DatumCycle<'_> {
 
     fn perform(&self, memory: &mut ByteMemory) -> Reply {
         memory.access(&self.access())
-    }
-}
-
-/// Datum `i` of a request as an access, at the offset of its first byte.
-fn access_of(request: &Request, i: u16, at: u32) -> Access<'_>
-    requires counted { IsTrue (is_counted request.now) }
-    requires in_count { i < count_of request.now }
-    ensures { accessed result ≡ datum_command request.now i at }
-{
-    match request {
-        Request::Read { n, .. } => Access::Read {
-            block: false,
-            at,
-            n: *n,
-        },
-        Request::BlockRead { n, .. } => Access::Read {
-            block: true,
-            at,
-            n: *n,
-        },
-        Request::Modify { n, f, .. } => Access::Modify { at, n: *n, f },
-        Request::Write { .. } => Access::Write {
-            block: false,
-            at,
-            bytes: request.datum(i).unwrap(),
-        },
-        Request::BlockWrite { .. } | Request::BlockFill { .. } => Access::Write {
-            block: true,
-            at,
-            bytes: request.datum(i).unwrap(),
-        },
     }
 }

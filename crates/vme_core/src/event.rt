@@ -58,6 +58,8 @@ pub enum EventReply {
 /// The object that takes an event: the board with this index, or the arbiter.
 #[derive(Clone, Copy, Debug, PartialEq, Eq)]
 pub enum Target {
+    /// The board with this index.
     Board(usize),
+    /// The arbiter.
     Bus,
 }

@@ -9,7 +9,8 @@ ghost use Rattle.vme_core.specs.Calls.{call_of, machine_step};
 ghost use Rattle.vme_core.specs.Machines.{opening, IsThere};
 ghost use Rattle.vme_core.specs.declared.event.Event.{Event};
 
-/// States that runs compose: a second run continues where the first ends.
+/// States that runs compose: the empty run leaves the machine unchanged, and a second run continues
+/// where the first ends.
 pub fn runs_compose()
     ensures nothing { (m : Machine) → IsRun [] m m }
     ensures goes_on { (first then : List Transition) (a b c : Machine) →

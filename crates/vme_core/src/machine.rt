@@ -157,7 +157,7 @@ impl Core {
     ///
     /// `OutOfMemory`: the reservation failed, and nothing was done. `Spent`: the object of an event
     /// can count no further step; the events before it were done.
-    #[tactic(auto, using(crate::proofs::lemmas::Dones::done_nothing, crate::proofs::lemmas::Dones::done_more, crate::proofs::lemmas::Dones::run_all, crate::proofs::lemmas::Dones::run_spent, crate::proofs::lemmas::Dones::run_none))]
+    #[tactic(auto, using(crate::proofs::lemmas::RunSteps::done_nothing, crate::proofs::lemmas::RunSteps::done_more, crate::proofs::lemmas::RunSteps::run_all, crate::proofs::lemmas::RunSteps::run_spent, crate::proofs::lemmas::RunSteps::run_none))]
     pub fn run(
         &mut self,
         events: &[(usize, Event)],
@@ -215,6 +215,13 @@ impl Core {
             Target::Board(board) => self.boards[board].counts(),
             Target::Bus => self.bus.counts(),
         }
+    }
+
+    /// Returns the arbiter.
+    pub fn arbiter(&self) -> &Arbiter
+        ensures { result.now ≡ self.now.bus.object }
+    {
+        self.bus.object()
     }
 
     /// Returns the memory of a board.

@@ -79,7 +79,7 @@ four_bytes addr at = (Bytes03, record { at = record { found = rw at refl; first 
 eight_bytes : (addr : ℕ) → addr % 4 ≡ 0 → (l : Location) × IsBlockRow addr 8 l
 eight_bytes addr at = (Bytes03, record { at = record { found = refl; first = sym at; len = refl }; lword = refl; quad = refl; a01 = rw at refl })
 
--- an aligned datum of one, two, four or eight bytes has a row
+-- an aligned datum of one, two, four or eight bytes has a block row
 block_row : (wide : Bool) (addr n : ℕ) → is_datum_len wide n ≡ true → addr % n ≡ 0 → (l : Location) × IsBlockRow addr n l
 block_row wide addr n block aligned =
     elim (datum_lens wide n block) [
@@ -117,7 +117,7 @@ begins_aligned request block found =
       | inr part ↦ absurd (let bad = rw (block, part) at found in cc)
     ]
 
--- the row of datum i of a block
+-- each datum of a lawful block request has a block row
 pub block_datum_row :
     (row : CodeRow) (request : Request) (i : ℕ) → IsLawful row request → is_block_request request ≡ true
     → (l : Location) × IsBlockRow (address_of request i) (datum_len request) l
@@ -131,7 +131,7 @@ some_of : {A : Type 0} (found : Option A) → is_none found ≡ false → (x : A
 some_of None h = absurd cc
 some_of (Some x) h = (x, refl)
 
--- what is left after a test that discards it was found before the test
+-- an option that is not None after a test that may discard it was not None before the test
 left_by : {A : Type 0} (test : Bool) (found : Option A) → is_none (if test then None else found) ≡ false → is_none found ≡ false
 left_by true found h = absurd cc
 left_by false found h = h
@@ -140,7 +140,7 @@ left_by false found h = h
 first_alone : (request : Request) (i : ℕ) → is_block_request request ≡ false → i < count_of request → address_of request i ≡ addr_of request
 first_alone request i alone less = let one = single request alone in let none : i ≡ 0 = omega (arith, one, less) in rw none (omega arith)
 
--- a location that is found without a code of eight-byte data
+-- a location that is found for other than eight bytes has their place in the group of four and their number
 plain_found : (addr n : ℕ) (l : Location) → is_wide_len n ≡ false → location_for addr n ≡ Some l → IsAt addr n l
 plain_found addr n l plain found =
     let row = found_row addr n l (rw plain at found) in
@@ -201,18 +201,18 @@ same_lword row request i first own is less at_first at_own =
           cc same
     ]
 
--- strobes with the levels that they have are unchanged
+-- strobes in which A01 and LWORD* are set to the levels that they have are unchanged
 same_levels : (strobes : Strobes) (a01 lword : Bool) → strobes.a01 ≡ a01 → lword ≡ strobes.lword
     → record { ds1 = strobes.ds1; ds0 = strobes.ds0; a01 = a01; lword = lword } ≡ strobes
 same_levels strobes a01 lword high low = rw (← high, low) refl
 
 -- a slave that increments the address senses the datum's own location
-pub counts_on :
+pub sensed_own :
     (row : CodeRow) (request : Request) (i : ℕ) (first own : Location) (s : SignalLines) → IsLawful row request → i < count_of request
     → location_for (address_of request zero) (datum_len request) ≡ Some first → location_for (address_of request i) (datum_len request) ≡ Some own
     → s.am ≡ row → s.strobes ≡ shown_strobes (row_of first).strobes (row_of own).strobes
     → sensed_at s (address_of request i) ≡ Some own
-counts_on row request i first own s is less at_first at_own am shown =
+sensed_own row request i first own s is less at_first at_own am shown =
     let lword = same_lword row request i first own is less at_first at_own in
     elim (cases_Bool (is_block_request request)) [
       | inl block ↦
@@ -229,7 +229,7 @@ counts_on row request i first own s is less at_first at_own am shown =
           rw (kind, shown, same) (own_sensed own)
     ]
 
--- strobes of a location select its bytes
+-- strobes select as many bytes as the location that is sensed from them
 pub len_of_strobes :
     (wide : Bool) (strobes : Strobes) (l : Location) (n : ℕ) → location_sensed strobes ≡ Some l → chosen_len wide l ≡ Some n
     → row_len wide strobes ≡ Some n

@@ -78,7 +78,8 @@ datum_of (BlockWrite am addr n bytes) i = Some (slice_range bytes.items (i * n) 
 datum_of (BlockFill am addr n count bytes) i = Some bytes.items
 datum_of (Modify am addr n f) i = None
 
--- whether the numbers and the bytes of a request match; the code determines the datum length of a block
+-- whether the datum length and the number of data of a request are allowed and match its bytes; the code determines which
+-- datum lengths a block may have
 abbrev pub is_counted : Request → Bool
 is_counted (Read am addr n) = is_single_len n
 is_counted (Write am addr bytes) = is_single_len (length bytes.items)

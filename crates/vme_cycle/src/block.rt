@@ -76,7 +76,7 @@ impl Block {
     }
 
     /// Returns the block with the bytes of a representation.
-    pub(crate) fn of_held(repr: Repr) -> Block
+    pub(crate) fn from_repr(repr: Repr) -> Block
         requires { length (repr_bytes repr) ≤ block_limit }
         ensures { result.items ≡ repr_bytes repr }
     {

@@ -86,6 +86,6 @@ impl BlockBuffer {
         requires { length self.items ≤ block_limit }
         ensures { result.items ≡ self.items }
     {
-        Block::of_held(self.repr)
+        Block::from_repr(self.repr)
     }
 }

@@ -3,7 +3,7 @@ ghost use Rattle.vme_cycle.specs.declared.fault.CycleFault.TheVariants.{Code};
 
 use vme_am::AmFault;
 
-/// Why a request is refused. The variants stand in the order of the checks.
+/// Why a request is refused. The variants are in the order of the checks.
 #[derive(Clone, Copy, Debug, PartialEq, Eq)]
 pub enum CycleFault {
     /// K9, K2 or K1: the code is not an address modifier of the table.

@@ -200,8 +200,8 @@ impl Request {
         }
     }
 
-    /// Whether the numbers and the bytes of the request match. `wide` states whether its code is
-    /// one of eight-byte data.
+    /// Whether the datum length and the number of data are allowed and match the bytes. `wide`
+    /// states whether the code is one of eight-byte data.
     pub(crate) fn is_counted(&self, wide: bool) -> bool
         requires { is_wide_code (code_of self.now) ≡ wide }
         ensures { result ≡ is_counted self.now }

@@ -12,7 +12,7 @@ use Rattle.vme_cycle.specs.Refusals.{where_true, first_of}
 use Rattle.vme_decode.specs.Lawful.{entry_refusals, first_refusal}
 use Rattle.vme_decode.proofs.Apart.{last_of_none}
 
--- an entry without a refusal of its own
+-- an entry begins at a multiple of four and ends in its space
 pub record IsSound (e : Entry) : Type 0 where
   pub aligned : e.base % 4 ≡ 0
   pub inside : end_of e ≤ addresses_of e.space
@@ -31,7 +31,7 @@ end_of_none e more none =
       | inr inside ↦ ltb-false (addresses_of e.space) (end_of e) inside
     ]
 
--- each entry of a list without a refusal has no refusal of its own
+-- each entry of a list without a refusal begins at a multiple of four and ends in its space
 sound_in : (entries : List Entry) (more : List (Option MapFault)) (place : ℕ) (entry : Entry)
     → first_of (flat_map entry_refusals entries ++ more) ≡ None → slice_get entries place ≡ Some entry → IsSound entry
 sound_in [] more place entry none there = cc
@@ -43,7 +43,7 @@ sound_in (e ∷ entries) more zero entry none there =
 sound_in (e ∷ entries) more (suc k) entry none there =
     sound_in entries more k entry (last_of_none (entry_refusals e) (flat_map entry_refusals entries ++ more) none) there
 
--- each entry of a lawful map is aligned and ends in its space
+-- each entry of a lawful map begins at a multiple of four and ends in its space
 pub lawful_entry : (entries : List Entry) (place : ℕ) (entry : Entry) → first_refusal entries ≡ None
     → slice_get entries place ≡ Some entry → IsSound entry
 unfolding first_refusal

@@ -62,7 +62,7 @@ chosen_row entries rows code addr place entry last lawful table is_last there re
     let own : IsRow entries last = All-contains (IsRow entries) rows last table.own is_last.there in
     let inside = (lawful_entry entries place entry lawful there).inside in
     let inside_last = (lawful_entry entries last.place last.entry lawful own.there).inside in
-    let from : rank_of (row_at place entry) ≤ rank_of last = is_last.after (row_at place entry) (table.whole _ row.0) row.1 in
+    let from : rank_of (row_at place entry) ≤ rank_of last = is_last.after (row_at place entry) (table.complete _ row.0) row.1 in
     let between = between entry.space last.entry.space entry.base last.entry.base addr (omega arith) (omega arith) from
     (subst (λ s. rank_of last ≤ rank s addr) (sym has.space_is) is_last.up_to) in
     let space = last.entry.space in
@@ -78,7 +78,7 @@ pub none_up_to : (entries : List Entry) (rows : List Row) (code : CodeRow) (addr
     → IsLastUpTo rows (rank code.space addr) None → selection_at entries code addr ≡ None
 none_up_to entries rows code addr table higher = nothing_selected entries code addr (λ place entry there responds_is.
     let row = responding_row entries code addr place entry there responds_is in
-    let above = higher (row_at place entry) (table.whole (row_at place entry) row.0) in
+    let above = higher (row_at place entry) (table.complete (row_at place entry) row.0) in
     omega arith)
 
 -- if the last row up to the address does not respond, nothing is selected

@@ -8,35 +8,35 @@ use Rattle.std.proofs.lemmas.Bool.{cases_lt, lt-ltb}
 use Rattle.std.proofs.lemmas.Option.{slice_get_within, get_or_from_slice_get, slice_get-get_or}
 use Rattle.vme_decode.specs.declared.table.Row.{Row}
 use Rattle.vme_decode.specs.Table.{rank_of, IsLast, IsLastUpTo}
-use Rattle.vme_decode.proofs.Ranks.{Turns}
+use Rattle.vme_decode.proofs.Ranks.{RowsSplit}
 
 -- a row of a table has a position
 at_place : (rows : List Row) (row : Row) (there : Contains rows row) → slice_get rows there.0 ≡ Some row
 at_place rows row there = slice_get-get_or rows there.0 row there.1 ∙ ap Some there.2
 
 -- a row up to the rank is before the partition point
-before_end : (rows : List Row) (top end : ℕ) (row : Row) → Turns rows top end → rank_of row ≤ top
+before_end : (rows : List Row) (top end : ℕ) (row : Row) → RowsSplit rows top end → rank_of row ≤ top
     → (there : Contains rows row) → there.0 < end
-before_end rows top end row turns up_to there =
+before_end rows top end row row_split up_to there =
     elim (cases_lt there.0 end) [
       | inl before ↦ before
-      | inr past ↦ absurd (omega (arith, turns.above there.0 row past (at_place rows row there)))
+      | inr past ↦ absurd (omega (arith, row_split.above there.0 row past (at_place rows row there)))
     ]
 
 -- if no row is before the partition point, each rank is greater
-pub none_up_to_rank : (rows : List Row) (top : ℕ) → Turns rows top 0 → IsLastUpTo rows top None
-none_up_to_rank rows top turns row there = turns.above there.0 row (omega arith) (at_place rows row there)
+pub none_up_to_rank : (rows : List Row) (top : ℕ) → RowsSplit rows top 0 → IsLastUpTo rows top None
+none_up_to_rank rows top row_split row there = row_split.above there.0 row (omega arith) (at_place rows row there)
 
 -- the row before the partition point is the last up to the rank
-some_up_to : (rows : List Row) (top end : ℕ) (last : Row) → IsNonDecreasingBy rank_of rows → Turns rows top end → 0 < end
+some_up_to : (rows : List Row) (top end : ℕ) (last : Row) → IsNonDecreasingBy rank_of rows → RowsSplit rows top end → 0 < end
     → slice_get rows (end - 1) ≡ Some last → IsLast rows top last
-some_up_to rows top end last rising turns some found =
+some_up_to rows top end last rising row_split some found =
     let at : get_or rows (end - 1) last ≡ last = get_or_from_slice_get rows (end - 1) last last found in
     record {
       there = (end - 1, slice_get_within rows (end - 1) last found, at);
-      up_to = turns.up_to (end - 1) last (omega arith) found;
+      up_to = row_split.up_to (end - 1) last (omega arith) found;
       after = λ row there up_to.
-          let before : there.0 < end = before_end rows top end row turns up_to there in
+          let before : there.0 < end = before_end rows top end row row_split up_to there in
           let risen : rank_of (get_or rows there.0 row) ≤ rank_of (get_or rows (end - 1) row) =
           rising there.0 (end - 1) row (omega arith) (slice_get_within rows (end - 1) last found) in
           let row_is : rank_of (get_or rows there.0 row) ≡ rank_of row = ap rank_of there.2 in
@@ -45,18 +45,18 @@ some_up_to rows top end last rising turns some found =
           omega arith;
     }
 
--- a row before the partition point exists
-not_none : (rows : List Row) (top end : ℕ) → Turns rows top end → 0 < end → None ≡ slice_get rows (end - 1)
+-- if the partition point is positive, the row before it exists
+not_none : (rows : List Row) (top end : ℕ) → RowsSplit rows top end → 0 < end → None ≡ slice_get rows (end - 1)
     → IsLastUpTo rows top None
-not_none rows top end turns some found_is row there =
-    let last = slice_get-get_or rows (end - 1) row (omega (arith, turns.within)) in
+not_none rows top end row_split some found_is row there =
+    let last = slice_get-get_or rows (end - 1) row (omega (arith, row_split.within)) in
     cc
 
 -- the row that is found before the partition point is the last up to the rank
-pub last_at : (rows : List Row) (top end : ℕ) (found : Option Row) → IsNonDecreasingBy rank_of rows → Turns rows top end
+pub last_at : (rows : List Row) (top end : ℕ) (found : Option Row) → IsNonDecreasingBy rank_of rows → RowsSplit rows top end
     → 0 < end → found ≡ slice_get rows (end - 1) → IsLastUpTo rows top found
-last_at rows top end None rising turns some found_is = not_none rows top end turns some found_is
-last_at rows top end (Some last) rising turns some found_is = some_up_to rows top end last rising turns some (sym found_is)
+last_at rows top end None rising row_split some found_is = not_none rows top end row_split some found_is
+last_at rows top end (Some last) rising row_split some found_is = some_up_to rows top end last rising row_split some (sym found_is)
 
 -- the row that an indexed access returns
 pub got : (rows : List Row) (k : ℕ) (found : Option (Bor Row)) → is_some found ≡ nat_lt k (length rows)

@@ -51,15 +51,15 @@ ranks_parted rows ranks top rising has below i j d le within up_to =
     ]
 
 -- the rows before a place have ranks up to top, and the rows from it on have greater ranks
-pub record Turns (rows : List Row) (top end : ℕ) : Type 0 where
+pub record RowsSplit (rows : List Row) (top end : ℕ) : Type 0 where
   pub within : end ≤ length rows
   pub up_to : (k : ℕ) (row : Row) → k < end → slice_get rows k ≡ Some row → rank_of row ≤ top
   pub above : (k : ℕ) (row : Row) → end ≤ k → slice_get rows k ≡ Some row → top < rank_of row
 
 -- the partition point of the ranks is that of the rows
-pub rows_turn : (rows : List Row) (ranks : List ℕ) (top end : ℕ) → HasRanks rows ranks → top < 2 ^ 64 - 1 → end ≤ length ranks
-    → IsPartitionPoint (λ r. r ≤ top) (λ r. top < r) ranks end → Turns rows top end
-rows_turn rows ranks top end has below places point = record {
+pub rows_split : (rows : List Row) (ranks : List ℕ) (top end : ℕ) → HasRanks rows ranks → top < 2 ^ 64 - 1 → end ≤ length ranks
+    → IsPartitionPoint (λ r. r ≤ top) (λ r. top < r) ranks end → RowsSplit rows top end
+rows_split rows ranks top end has below places point = record {
   within = elim (cases_lt (length rows) end) [
     | inl past ↦
         let up_to = point.0 (length rows) 0 (omega arith) past in

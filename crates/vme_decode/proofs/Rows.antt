@@ -15,11 +15,11 @@ use Rattle.vme_decode.specs.Table.{rank_of, IsRow, IsTable}
 pub record HasRows (entries : List Entry) (n : ℕ) (rows : List Row) : Type 0 where
   pub few : length rows ≤ n
   pub own : All (IsRow entries) rows
-  pub whole : (row : Row) → IsRow entries row → row.place < n → Contains rows row
+  pub complete : (row : Row) → IsRow entries row → row.place < n → Contains rows row
 
 -- no rows are those of the first 0 entries
 pub has_none : (entries : List Entry) → HasRows entries 0 []
-has_none entries = record { few = omega arith; own = All-nil (IsRow entries); whole = λ row is_row below. absurd (omega arith) }
+has_none entries = record { few = omega arith; own = All-nil (IsRow entries); complete = λ row is_row below. absurd (omega arith) }
 
 -- a row from its parts: position, entry
 abbrev pub row_at : ℕ → Entry → Row
@@ -37,8 +37,8 @@ pub has_pushed : (entries : List Entry) (rows : List Row) (row : Row)
 has_pushed entries rows row has is_row = record {
   few = omega (arith, length-append rows (row ∷ []), has.few);
   own = All-push (IsRow entries) rows row has.own is_row;
-  whole = λ other is_other below. elim (cases_lt other.place row.place) [
-    | inl before ↦ Contains-append_left rows (row ∷ []) other (has.whole other is_other before)
+  complete = λ other is_other below. elim (cases_lt other.place row.place) [
+    | inl before ↦ Contains-append_left rows (row ∷ []) other (has.complete other is_other before)
     | inr at ↦
         let same : row ≡ other = same_row entries row other is_row is_other (omega arith) in
         subst (Contains (rows ++ row ∷ [])) same (Contains-push rows row)
@@ -51,8 +51,8 @@ pub has_skipped : (entries : List Entry) (rows : List Row) (n : ℕ) (entry : En
 has_skipped entries rows n entry has there empty = record {
   few = omega (arith, has.few);
   own = has.own;
-  whole = λ other is_other below. elim (cases_lt other.place n) [
-    | inl before ↦ has.whole other is_other before
+  complete = λ other is_other below. elim (cases_lt other.place n) [
+    | inl before ↦ has.complete other is_other before
     | inr at ↦
         let same : other.place ≡ n = omega arith in
         let entry_is : other.entry ≡ entry = same_Some _ _ (sym is_other.there ∙ ap (slice_get entries) same ∙ there) in
@@ -66,7 +66,7 @@ pub table_from_rows : (entries : List Entry) (n : ℕ) (rows sorted : List Row) 
 table_from_rows entries n rows sorted all has moved rising = record {
   rising = rising;
   own = All-permutation (IsRow entries) rows sorted moved has.own;
-  whole = λ row is_row.
+  complete = λ row is_row.
       let within = slice_get_within entries row.place row.entry is_row.there in
-      Contains-permutation rows sorted row moved (has.whole row is_row (omega arith));
+      Contains-permutation rows sorted row moved (has.complete row is_row (omega arith));
 }

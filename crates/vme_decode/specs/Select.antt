@@ -20,9 +20,9 @@ selection_at entries code addr =
 unfoldable pub selection : List Entry → SignalLines → Option (ℕ × ℕ)
 selection entries s = option_and_then (selection_at entries s.am) (first_byte s)
 
--- a code and an address fall to the entry at a position: it has the code's space, admits the code, and contains the
--- address; IEEE 1014-1987, 2.3.5 (addressing)
-pub record FallsTo (entries : List Entry) (code : CodeRow) (addr place offset : ℕ) : Type 0 where
+-- the entry at a position responds to a code and an address, at an offset from its base: it has the code's space, admits
+-- the code, and contains the address; IEEE 1014-1987, 2.3.5 (addressing)
+pub record RespondsAt (entries : List Entry) (code : CodeRow) (addr place offset : ℕ) : Type 0 where
   pub entry : Entry
   pub there : slice_get entries place ≡ Some entry
   pub space : entry.space ≡ code.space
@@ -30,9 +30,9 @@ pub record FallsTo (entries : List Entry) (code : CodeRow) (addr place offset : 
   pub distance : addr ≡ entry.base + offset
   pub within : offset < entry.size
 
--- a cycle selects the entry at a position, to which its code and the address of its first byte fall;
+-- a cycle selects the entry at a position: that entry responds to its code and the address of its first byte;
 -- IEEE 1014-1987, 2.3.5 (addressing)
 pub record IsSelected (entries : List Entry) (s : SignalLines) (place offset : ℕ) : Type 0 where
   pub addr : ℕ
   pub first : first_byte s ≡ Some addr
-  pub falls : FallsTo entries s.am addr place offset
+  pub falls : RespondsAt entries s.am addr place offset

@@ -25,7 +25,7 @@ pub record IsRow (entries : List Entry) (row : Row) : Type 0 where
 pub record IsTable (entries : List Entry) (rows : List Row) : Type 0 where
   pub rising : IsNonDecreasingBy rank_of rows
   pub own : All (IsRow entries) rows
-  pub whole : (row : Row) → IsRow entries row → Contains rows row
+  pub complete : (row : Row) → IsRow entries row → Contains rows row
 
 -- the ranks of a search are those of the rows, with the greatest number at the unused places
 pub record HasRanks (rows : List Row) (ranks : List ℕ) : Type 0 where

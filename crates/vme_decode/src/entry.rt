@@ -44,7 +44,8 @@ impl Entry {
         am.is_supervisory() || !self.supervisory
     }
 
-    /// Whether the entry responds to a code and an address.
+    /// Returns whether the entry responds: it covers the address in the code's space and admits the
+    /// code; IEEE 1014-1987, 2.3.5 (addressing).
     pub fn responds(&self, am: Am, addr: u32) -> bool
         ensures { result ≡ responds self.now am addr }
     {

@@ -5,7 +5,7 @@ ghost use Rattle.vme_cycle.specs.SignalLines.{SignalLines, first_byte};
 ghost use Rattle.vme_decode.specs.declared.entry.Entry.{Entry};
 ghost use Rattle.vme_decode.specs.Entries.{covers, overlap};
 ghost use Rattle.vme_decode.specs.Lawful.{first_refusal};
-ghost use Rattle.vme_decode.specs.Select.{selection_at, selection, FallsTo, IsSelected};
+ghost use Rattle.vme_decode.specs.Select.{selection_at, selection, RespondsAt, IsSelected};
 
 /// States that two entries overlap exactly where both cover some address of some space.
 #[tactic(auto, using(crate::proofs::Ranges::overlap_shared, crate::proofs::Ranges::shared_overlap))]
@@ -39,7 +39,7 @@ pub fn selection_goes_by_the_address()
         first_byte s ≡ Some addr → selection entries s ≡ selection_at entries s.am addr }
     ensures one { (entries : List Entry) (code : CodeRow) (addr place offset : ℕ) →
         first_refusal entries ≡ None →
-        (selection_at entries code addr ≡ Some (place, offset)) ↔ FallsTo entries code addr place offset }
+        (selection_at entries code addr ≡ Some (place, offset)) ↔ RespondsAt entries code addr place offset }
     ensures remainder { (entries : List Entry) (code : CodeRow) (addr place offset : ℕ) →
         first_refusal entries ≡ None → selection_at entries code addr ≡ Some (place, offset) →
         offset % 4 ≡ addr % 4 }

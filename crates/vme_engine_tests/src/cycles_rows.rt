@@ -290,7 +290,7 @@ static ONE_BYTE: [&str; 2] = [
     "am=0b a=00000000 ds1=1 ds0=0 a01=0 lword=1 write=0 data=------5a\n",
 ];
 
-/// Returns what is written of a fill of a whole unit by single bytes.
+/// Returns the text for a fill of a whole unit by single bytes.
 fn whole_unit(alloc: Global) -> Result<String, AllocError> {
     let mut text = String::new(alloc);
     for _pair in 0..128u16 {
@@ -343,14 +343,14 @@ fn read_with(alloc: Global, code: u8) -> Result<String, AllocError> {
     format!(in alloc; "r {code:02x} 00000001 1\n")
 }
 
-/// Returns what is written of that read: the signals with these digits on D07-D00, and the outcome.
+/// Returns the text for that read: the signals with these digits on D07-D00, and the outcome.
 fn read_signals(alloc: Global, code: u8, digits: &str, end: &str) -> Result<String, AllocError> {
     format!(in alloc;
         "am={code:02x} a=00000000 ds1=1 ds0=0 a01=0 lword=1 write=1 data=------{digits}\n{end}\n"
     )
 }
 
-/// Returns what is written of a read that is refused.
+/// Returns the text for a read that is refused.
 fn refusal(alloc: Global, end: &str) -> Result<String, AllocError> {
     format!(in alloc; "{end}\n")
 }

@@ -95,7 +95,7 @@ fn push_all(text: &mut String, part: &str) -> Result<(), AllocError> {
     Ok(())
 }
 
-/// Returns what is written of a fill of a whole unit and a read of it.
+/// Returns the text for a fill of a whole unit and a read of it.
 fn whole_unit(alloc: Global) -> Result<String, AllocError> {
     let mut text = String::new(alloc);
     push_all(&mut text, WRITE)?;

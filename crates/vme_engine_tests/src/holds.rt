@@ -38,7 +38,7 @@ board 2 steps 0 made 0 0
 mem 1 00000000 01020000030400000000000000000000
 ";
 
-/// How often the held processor looks for the end of the other one's script.
+/// The number of times that the held processor checks for the end of the other one's script.
 const LOOKS: u32 = 10_000_000;
 
 /// The number of the last line of both scripts.

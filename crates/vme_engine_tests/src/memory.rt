@@ -1,4 +1,4 @@
-//! Runs where memory is refused.
+//! Runs in which an allocation fails.
 use crate::support::{Row, run_on, torn_block, two_writers};
 use std::alloc::Global;
 use std::process::Abort;

@@ -15,9 +15,9 @@ use vme_runner::{
     BoardReport, Gate, LineTask, LineTodo, Ports, Ran, Report, RunFault, Status, Worker,
     a_run_of_threads_is_a_run_of_turns, a_turn_makes_its_call_alone, blocks_do_not_interleave,
     commands_are_the_holders, data_move_for_the_holder, declared_mailboxes_are_queues,
-    each_line_comes_to_its_end, each_transition_is_a_turn, gather, no_line_is_denied,
-    one_order_is_a_history_of_each, report_text, run_steps, run_threads, texts_show_queues,
-    the_arbiter_denies_nobody, turns_are_a_run_of_moves,
+    each_transition_is_a_turn, gather, no_line_is_denied, no_line_is_unfinished,
+    one_order_has_a_history_of_each_object, report_text, run_steps, run_threads, texts_show_queues,
+    the_arbiter_denies_no_command, turns_are_a_run_of_transitions,
 };
 use vme_script::Config;
 
@@ -87,18 +87,18 @@ fn reported<R: Threads + Wait + Sync>(
 
 fn laws() {
     no_line_is_denied();
-    the_arbiter_denies_nobody();
-    each_line_comes_to_its_end();
+    the_arbiter_denies_no_command();
+    no_line_is_unfinished();
     commands_are_the_holders();
     data_move_for_the_holder();
     blocks_do_not_interleave();
     a_turn_makes_its_call_alone();
     each_transition_is_a_turn();
-    turns_are_a_run_of_moves();
+    turns_are_a_run_of_transitions();
     declared_mailboxes_are_queues();
     texts_show_queues();
     a_run_of_threads_is_a_run_of_turns();
-    one_order_is_a_history_of_each();
+    one_order_has_a_history_of_each_object();
 }
 
 /// Builds the ports of a configuration and runs it by turns and on threads.

@@ -13,7 +13,7 @@ fn words_of(alloc: Global, line: &str) -> Result<Vec<String>, AllocError> {
     Ok(words)
 }
 
-/// Checks what the words of a line are read as.
+/// Checks the form that the words of a line have.
 fn expect(
     rt: &impl Abort,
     alloc: Global,

@@ -20,14 +20,14 @@ use Rattle.vme_engines.proofs.lemmas.Lawful.{read_lawful}
 run_text_of : (input : List ℕ) (config : Configuration) (report : Report) (status : Status) → Configures input config
     → IsReportOfOneOrder config report → status ≡ report_status (texts_of_report report)
     → IsRunText input (report_text (texts_of_report report)) status
-run_text_of input config report status configures order good =
+run_text_of input config report status configures order status_is =
     let turns = report_of_turns config report (read_lawful input config configures) order in
     record {
       config = config;
       configures = configures;
       slots = turns.0;
-      whole = ap report_text turns.1.boards;
-      good = good ∙ ap report_status turns.1.boards;
+      text_is = ap report_text turns.1.boards;
+      status_is = status_is ∙ ap report_status turns.1.boards;
       report = report;
       order = order;
       state = turns.1;
@@ -39,9 +39,9 @@ pub text_written : (reported old new : Option (List ℕ)) (config : Configuratio
     → IsReportOfOneOrder config report → status ≡ report_status (texts_of_report report)
     → Appends old new (report_text (texts_of_report report))
     → IfSome reported (λ input. (text : List ℕ) × IsRunText input text status × Appends old new text)
-text_written None old new config report status configures order good written = tt
-text_written (Some input) old new config report status configures order good written =
-    (report_text (texts_of_report report), run_text_of input config report status configures order good, written)
+text_written None old new config report status configures order status_is written = tt
+text_written (Some input) old new config report status configures order status_is written =
+    (report_text (texts_of_report report), run_text_of input config report status configures order status_is, written)
 
 -- if a prefix of the text of a report of one order was written before a fault, it is that of a run of the input
 pub prefix_written : (reported old new : Option (List ℕ)) (end : Result Status ProgramFault) (config : Configuration) (report : Report)
@@ -51,8 +51,8 @@ pub prefix_written : (reported old new : Option (List ℕ)) (end : Result Status
 prefix_written None old new end config report configures order written = tt
 prefix_written (Some input) old new (Ok status) config report configures order written = tt
 prefix_written (Some input) old new (Err fault) config report configures order written =
-    let good = report_status (texts_of_report report) in
-    inr (report_text (texts_of_report report), (good, run_text_of input config report good configures order refl), written)
+    let status_is = report_status (texts_of_report report) in
+    inr (report_text (texts_of_report report), (status_is, run_text_of input config report status_is configures order refl), written)
 
 -- if a prefix of the text of the file's own turns was written before a fault, it is that of the run on one thread
 pub step_prefix_written : (reported old new : Option (List ℕ)) (end : Result Status ProgramFault) (config : Configuration)
@@ -61,4 +61,4 @@ pub step_prefix_written : (reported old new : Option (List ℕ)) (end : Result S
 step_prefix_written None old new end config configures written = tt
 step_prefix_written (Some input) old new (Ok status) config configures written = tt
 step_prefix_written (Some input) old new (Err fault) config configures written =
-    inr (run_text config (file_turns config), record { config = config; configures = configures; whole = refl }, written)
+    inr (run_text config (file_turns config), record { config = config; configures = configures; text_is = refl }, written)

@@ -17,8 +17,8 @@ pub record IsRunText (input text : List ℕ) (status : Status) : Type 0 where
   pub config : Configuration
   pub configures : Configures input config
   pub slots : List ℕ
-  pub whole : text ≡ run_text config slots
-  pub good : status ≡ run_status config slots
+  pub text_is : text ≡ run_text config slots
+  pub status_is : status ≡ run_status config slots
   pub report : Report
   pub order : IsReportOfOneOrder config report
   pub state : IsReportOfState config report (state_after config slots)
@@ -31,7 +31,7 @@ IsSomeRunText input text = (status : Status) × IsRunText input text status
 pub record IsStepText (input text : List ℕ) : Type 0 where
   pub config : Configuration
   pub configures : Configures input config
-  pub whole : text ≡ run_text config (file_turns config)
+  pub text_is : text ≡ run_text config (file_turns config)
 
 -- nothing was written, or a prefix of a text of this kind
 abbrev pub WritesPrefix : (List ℕ → Type 0) → Option (List ℕ) → Option (List ℕ) → Type 0

@@ -75,7 +75,8 @@ struct Boards<'a> {
     are_all: bool,
 }
 
-/// Reads the boards of a file, and finds their faults.
+/// Reads the boards of a file, and finds their faults. Of the boards past the greatest number, only
+/// the first with a faulty key has findings.
 fn read_boards<'a>(
     alloc: Global,
     file: &Section<'a>,
@@ -91,9 +92,12 @@ fn read_boards<'a>(
     find_count(file, items.len(), found)?;
     find_tables(Key::Board, items, found)?;
     for (index, item) in items.iter().enumerate() {
+        let before = found.len();
         let board = read_board(item, index, &known, found)?;
         if index < MOST_BOARDS {
             known.push(board)?;
+        } else if found.len() > before {
+            break;
         }
     }
     Ok(Boards {
@@ -161,7 +165,8 @@ struct Mailboxes {
     declared: Option<usize>,
 }
 
-/// Reads the mailboxes of a file, and finds their faults.
+/// Reads the mailboxes of a file, and finds their faults. Of the mailboxes past the greatest
+/// number, only the first with a faulty key has findings.
 fn read_mailboxes(
     alloc: Global,
     file: &Section<'_>,
@@ -188,9 +193,12 @@ fn read_mailboxes(
     }
     find_tables(Key::Mailbox, items, found)?;
     for (index, item) in items.iter().enumerate() {
+        let before = found.len();
         let mailbox = read_mailbox(item, index, (boards, map), &known, found)?;
         if index < MOST_MAILBOXES {
             known.push(mailbox)?;
+        } else if found.len() > before {
+            break;
         }
     }
     Ok(Mailboxes {

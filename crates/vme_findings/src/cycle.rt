@@ -158,7 +158,7 @@ fn count_cause(parts: &Parts) -> CycleCause
     } else if bytes != 1 && bytes != 2 && bytes != 4 {
         return CycleCause::DatumLength { am, bytes };
     }
-    if parts.count < 1 || parts.count > MOST_DATA {
+    if parts.bytes == 0 || parts.count > MOST_DATA {
         return CycleCause::DataCount { data: parts.count };
     }
     CycleCause::BytesLeft {

@@ -15,7 +15,7 @@ pub(crate) fn check_numbers(
     section: &Section<'_>,
     found: &mut Vec<Finding>,
 ) -> Result<(), AllocError> {
-    if let Some(word) = section.text_or(Key::Arbiter, "priority", found)? {
+    if let Some(word) = section.str_or(Key::Arbiter, "priority", found)? {
         if word != "priority" && word != "rotating" {
             let place = section.value_place(Key::Arbiter);
             find(found, Cause::Schedule(ScheduleCause::NoArbiter), place)?;

@@ -129,7 +129,7 @@ impl<'a> Section<'a> {
     }
 
     /// The Boolean at `key` or its default, if it has no fault.
-    pub(crate) fn truth_or(
+    pub(crate) fn bool_or(
         &self,
         key: Key,
         default: bool,
@@ -146,7 +146,7 @@ impl<'a> Section<'a> {
     }
 
     /// The string at `key` or its default, if it has no fault.
-    pub(crate) fn text_or(
+    pub(crate) fn str_or(
         &self,
         key: Key,
         default: &'a str,

@@ -74,15 +74,15 @@ pub(crate) fn read_keys<'a>(
     section.find_unknown(found)?;
     let slot = section.required_whole(Key::Slot, found)?;
     let level = section.whole_or(Key::Level, 3, found)?;
-    let space = section.text_or(Key::Space, "a32", found)?;
+    let space = section.str_or(Key::Space, "a32", found)?;
     let base = section.required_whole(Key::Base, found)?;
     let size = section.required_whole(Key::Size, found)?;
-    let supervisory = section.truth_or(Key::Supervisory, false, found)?;
+    let supervisory = section.bool_or(Key::Supervisory, false, found)?;
     let width = section.whole_or(Key::Width, 32, found)?;
-    let uat = section.truth_or(Key::Uat, false, found)?;
-    let _blt = section.truth_or(Key::Blt, true, found)?;
-    let rmw = section.truth_or(Key::Rmw, true, found)?;
-    let script = section.text_or(Key::Script, "", found)?;
+    let uat = section.bool_or(Key::Uat, false, found)?;
+    let _blt = section.bool_or(Key::Blt, true, found)?;
+    let rmw = section.bool_or(Key::Rmw, true, found)?;
+    let script = section.str_or(Key::Script, "", found)?;
     Ok(BoardKeys {
         slot,
         level,

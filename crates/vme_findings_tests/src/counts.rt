@@ -34,6 +34,24 @@ fn finds_too_many_boards(rt: HostRuntime) {
     check_ends(&rt, rt.alloc(), file.as_str(), " C4 C8", " C1");
 }
 
+/// Of the boards past the 21st, the first with a faulty key has a finding.
+#[test]
+fn finds_the_keys_of_one_board_too_many(rt: HostRuntime) {
+    let board = "[[board]]\nslot = 1\nbase = 0\nsize = 16\n";
+    let boards = repeated(rt.alloc(), "", board, 22, "").expect(&rt, "no memory");
+    let faulty = "[[board]]\nx = 1\nslot = 1\nbase = 0\nsize = 16\n";
+    let file = repeated(rt.alloc(), boards.as_str(), faulty, 3, "").expect(&rt, "no memory");
+    let codes = codes_of(rt.alloc(), file.as_bytes()).expect(&rt, "no memory");
+    assert_eq!(rt;
+        codes
+            .as_str()
+            .split(' ')
+            .filter(|code| *code == "C7")
+            .count(),
+        1
+    );
+}
+
 #[test]
 fn finds_too_many_mailboxes(rt: HostRuntime) {
     let board = "[[board]]\nslot = 1\nbase = 0\nsize = 16\n";

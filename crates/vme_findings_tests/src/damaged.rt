@@ -54,7 +54,7 @@ script = \"br 0b 00000000 4 2\\nm 09 00000024 4 add 00000001\"
 /// Bytes to put in the place of another one.
 static OTHERS: &[u8] = b"0z\" \n[]=#,";
 
-/// Checks that no finding of a file is its refusal without values.
+/// Checks that each finding of a file has a cause of its own, and is not `Cause::Refused`.
 fn check(rt: &impl Abort, alloc: Global, file: &[u8]) {
     let findings = findings_of(alloc, file).expect(rt, "no memory");
     for finding in &findings {

@@ -11,6 +11,8 @@ mod damaged;
 #[cfg(test)]
 mod places;
 #[cfg(test)]
+mod printed;
+#[cfg(test)]
 mod requests;
 #[cfg(test)]
 mod support;

@@ -3,8 +3,8 @@ use std::alloc::{AllocError, Global};
 use std::process::Abort;
 use vme_findings::{Cause, Severity, findings_of};
 
-/// Returns the codes of a file's findings, each after a space. A refusal that no finding has is
-/// `bare`.
+/// Returns the codes of a file's findings, each after a space. A refusal without a cause of its own
+/// is `bare`.
 pub fn codes_of(alloc: Global, file: &[u8]) -> Result<String, AllocError> {
     let findings = findings_of(alloc, file)?;
     let mut text = String::new(alloc);

@@ -138,7 +138,7 @@ pub local_modify_asked :
 local_modify_asked text between rest offset n f at length function =
     rw (at.first, length.first) (local_modify_by offset n at.word length.word (words rest) f at.spells length.spells function)
 
--- the line of a text whose words are known
+-- a text of at most 80 bytes with these words is read as the line that the words are parsed as
 pub line_asked :
     (line word text : List ℕ) (asked : Option Line) → length line ≤ 80 → words_of line ≡ word ∷ words text → Asks word text asked
     → MatchOption asked (Unit {0}) (λ asked. line_of line ≡ Ok (Some asked))
@@ -146,7 +146,7 @@ unfolding line_of
 line_asked line word text None short cut asks = tt
 line_asked line word text (Some asked) short cut asks = rw (le-ltb 80 (length line) short, cut, asks) refl
 
--- the line of a text whose first bytes are known
+-- a text of at most 80 bytes that begins with these two bytes is read as the line that its words are parsed as
 pub headed :
     (line head tail text word : List ℕ) (first second : ℕ) (asked : Option Line) → length line ≤ 80 → line ≡ first ∷ second ∷ tail
     → first ∷ second ∷ tail ≡ head → words_of head ≡ word ∷ words text → Asks word text asked

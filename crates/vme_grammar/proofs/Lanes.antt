@@ -13,6 +13,7 @@ abbrev digits : List (Option ℕ) → List ℕ
 digits [] = []
 digits (lane ∷ lanes) = slice_index_or (lane_text lane) 0 0 ∷ (slice_index_or (lane_text lane) 1 0 ∷ digits lanes)
 
+-- the digits of data lanes are their text
 digits_are : (lanes : List (Option ℕ)) → digits lanes ≡ lanes_text lanes
 digits_are [] = refl
 digits_are (lane ∷ lanes) =

@@ -28,6 +28,7 @@ bus_places Exchange = refl
 bus_places Add = refl
 bus_places Compare = refl
 
+-- a read-modify-write by the local port has three words after the first, and one for each datum of its function
 local_places : (function : Function) → length (drop 1 (fields_of (form.LocalModify function))) ≡ operand_count function + 3
 local_places Set = refl
 local_places Exchange = refl
@@ -35,16 +36,16 @@ local_places Add = refl
 local_places Compare = refl
 
 -- the result with a line and no refusal
-abbrev reported : Line → Result Line LineFault
-reported line = Ok line
+abbrev ok_line : Line → Result Line LineFault
+ok_line line = Ok line
 
--- the data of a function, read as the fields of its places
+-- the data of a function, read one by one, are those that the fields of its places read
 data_read :
     (whole : ℕ → ℕ → ℕ → modify.Modify → Line) (function : Function) (o : Operands) (name : List ℕ) (rest : List (List ℕ))
     → (length rest == operand_count function) ≡ true
-    → (modify_of function o.n rest >>= (λ (f : modify.Modify). reported (whole o.am o.addr o.n f)))
+    → (modify_of function o.n rest >>= (λ (f : modify.Modify). ok_line (whole o.am o.addr o.n f)))
     ≡ (fields_read (map field_at (function_places function)) (name ∷ rest) o
-    >>= (λ (given : Operands). reported (whole given.am given.addr given.n (function_at function given))))
+    >>= (λ (given : Operands). ok_line (whole given.am given.addr given.n (function_at function given))))
 unfolding modify_of with_field
 data_read whole Set o name [] count = refl
 data_read whole Set o name (x ∷ rest) count = absurd (omega (arith, eqb-true (length (x ∷ rest)) 0 count))
@@ -74,7 +75,7 @@ data_read whole Compare o name (x ∷ y ∷ []) count =
     ]
 data_read whole Compare o name (x ∷ y ∷ z ∷ rest) count = absurd (omega (arith, eqb-true (length (x ∷ y ∷ z ∷ rest)) 2 count))
 
--- the line of `m`, if the fourth word after it names a function
+-- if the fourth word after `m` names a function, `modify_line` gives the line of the form of that function
 modify_by :
     (function : Function) (a b c name : List ℕ) (rest : List (List ℕ)) → function_of (Some name) ≡ Ok function
     → modify_line (a ∷ b ∷ c ∷ name ∷ rest) ≡ line_by (form.Modify function) (a ∷ b ∷ c ∷ name ∷ rest)
@@ -100,7 +101,7 @@ modify_by function a b c name rest is =
       ]
     ]
 
--- the line of `lm`, if the third word after it names a function
+-- if the third word after `lm` names a function, `local_modify_line` gives the line of the form of that function
 local_modify_by :
     (function : Function) (a b name : List ℕ) (rest : List (List ℕ)) → function_of (Some name) ≡ Ok function
     → local_modify_line (a ∷ b ∷ name ∷ rest) ≡ line_by (form.LocalModify function) (a ∷ b ∷ name ∷ rest)
@@ -135,13 +136,14 @@ bus_named :
 unfolding line_named
 bus_named first function words is = rw is refl
 
+-- the line of a read-modify-write by the local port, by the function that its words name
 local_named :
     (first function : Function) (words : List (List ℕ)) → function_of (slice_get words 2) ≡ Ok function
     → line_by (form.LocalModify function) words ≡ line_named (form.LocalModify first) words
 unfolding line_named
 local_named first function words is = rw is refl
 
--- the line that the words after `m` spell
+-- the line of the words after `m` is that of the form of the function that they name
 pub modify_is_named : (words : List (List ℕ)) (first : Function) → modify_line words ≡ line_named (form.Modify first) words
 unfolding modify_line line_named
 modify_is_named [] first = rw no_function refl
@@ -154,7 +156,7 @@ modify_is_named (a ∷ b ∷ c ∷ name ∷ rest) first =
       | inr (function, is) ↦ modify_by function a b c name rest is ∙ bus_named first function (a ∷ b ∷ c ∷ name ∷ rest) is
     ]
 
--- the line that the words after `lm` spell
+-- the line of the words after `lm` is that of the form of the function that they name
 pub local_modify_is_named : (words : List (List ℕ)) (first : Function) → local_modify_line words ≡ line_named (form.LocalModify first) words
 unfolding local_modify_line line_named
 local_modify_is_named [] first = rw no_function refl

@@ -12,7 +12,7 @@ use Rattle.vme_grammar.specs.declared.form.LineForm.{LineForm}
 use Rattle.vme_grammar.specs.declared.form.LineForm.TheVariants.{Read, Write, BlockRead, BlockWrite, BlockFill, Modify, LocalRead, LocalWrite, LocalModify, Await, Lock, Unlock, Put, Take}
 use Rattle.vme_grammar.specs.declared.function.Function.TheVariants.{Set}
 use Rattle.vme_grammar.specs.Forms.{Place, Word, Of, places, fields_of, forms}
-use Rattle.vme_grammar.specs.Grammar.{go_by, form_of, operands_of, line_of_words}
+use Rattle.vme_grammar.specs.Grammar.{matches_fixed, form_of, operands_of, line_of_words}
 use Rattle.vme_grammar.specs.Naming.{form_named, function_of, with_function, line_by, line_named}
 
 -- the six bytes of `unlock` name the form Unlock
@@ -30,35 +30,36 @@ unlock_named (p ∷ q ∷ r ∷ s ∷ t ∷ []) long short u n l o c k = absurd 
 unlock_named (p ∷ q ∷ r ∷ s ∷ t ∷ v ∷ []) long short u n l o c k = rw (u, n, l, o, c, k) refl
 unlock_named (p ∷ q ∷ r ∷ s ∷ t ∷ v ∷ w ∷ more) long short u n l o c k = absurd (omega (arith, short))
 
--- the empty list of words matches any places if an absent word counts as a match
-go_by_none : (more : List Place) → go_by true more [] ≡ true
-go_by_none [] = refl
-go_by_none (Word text ∷ more) = go_by_none more
-go_by_none (Of field ∷ more) = go_by_none more
+-- the empty list of words matches all places if an absent word counts as a match
+matches_fixed_none : (more : List Place) → matches_fixed true more [] ≡ true
+matches_fixed_none [] = refl
+matches_fixed_none (Word text ∷ more) = matches_fixed_none more
+matches_fixed_none (Of field ∷ more) = matches_fixed_none more
 
 -- if the first word alone does not match, it does not match with more words after it
 first_fails :
-    (some : List Place) (word : List ℕ) (words : List (List ℕ)) → go_by true some (word ∷ []) ≡ false
-    → go_by true some (word ∷ words) ≡ false
+    (some : List Place) (word : List ℕ) (words : List (List ℕ)) → matches_fixed true some (word ∷ []) ≡ false
+    → matches_fixed true some (word ∷ words) ≡ false
 first_fails [] word words miss = absurd (let bad : true ≡ false = miss in cc)
-first_fails (Of field ∷ more) word words miss = absurd (let good : go_by true more [] ≡ true = go_by_none more in cc)
+first_fails (Of field ∷ more) word words miss = absurd (let good : matches_fixed true more [] ≡ true = matches_fixed_none more in cc)
 first_fails (Word text ∷ more) word words miss =
     elim (cases_Bool (bytes_eq word text)) [
-      | inl hit ↦ absurd (let bad = rw (hit, go_by_none more) at miss in cc)
+      | inl hit ↦ absurd (let bad = rw (hit, matches_fixed_none more) at miss in cc)
       | inr other ↦ rw other refl
     ]
 
+-- if no form begins with a word, no form matches words that begin with it
 none_named :
-    (some : List LineForm) (word : List ℕ) (words : List (List ℕ)) → find (λ form. go_by true (places form) (word ∷ [])) some ≡ None
-    → list_any (λ form. go_by true (places form) (word ∷ words)) some ≡ false
+    (some : List LineForm) (word : List ℕ) (words : List (List ℕ)) → find (λ form. matches_fixed true (places form) (word ∷ [])) some ≡ None
+    → list_any (λ form. matches_fixed true (places form) (word ∷ words)) some ≡ false
 none_named [] word words none = refl
 none_named (form ∷ some) word words none =
-    elim (cases_Bool (go_by true (places form) (word ∷ []))) [
+    elim (cases_Bool (matches_fixed true (places form) (word ∷ []))) [
       | inl hit ↦ absurd (let bad = rw hit at none in cc)
       | inr miss ↦ rw (first_fails (places form) word words miss) (none_named some word words (rw miss at none))
     ]
 
--- a word that begins no form is unknown, whatever follows it
+-- if no form begins with a word, words that begin with it are refused as an unknown word
 pub unnamed : (word : List ℕ) (words : List (List ℕ)) → form_named word ≡ None → form_of (word ∷ words) ≡ Err UnknownWord
 unfolding form_named form_of
 unnamed word words none = rw (none_named forms word words none) refl
@@ -74,7 +75,7 @@ find_passes p (x ∷ some) form found =
 
 -- a first word that matches a fixed word is that word
 first_is :
-    (text : List ℕ) (some : List Place) (word : List ℕ) → slice_get some 0 ≡ Some (Word text) → go_by true some (word ∷ []) ≡ true
+    (text : List ℕ) (some : List Place) (word : List ℕ) → slice_get some 0 ≡ Some (Word text) → matches_fixed true some (word ∷ []) ≡ true
     → word ≡ text
 first_is text [] word first passes = absurd (cc)
 first_is text (Of field ∷ more) word first passes = absurd (cc)
@@ -84,6 +85,7 @@ first_is text (Word own ∷ more) word first passes =
       | inr miss ↦ absurd (let bad = rw miss at passes in cc)
     ]
 
+-- words that begin with `m` have the form of the function that their fifth word names
 modify_named : (words : List (List ℕ)) → form_of (codes "m" ∷ words) ≡ with_function (Modify Set) words
 unfolding form_of function_of
 modify_named [] = refl
@@ -105,6 +107,7 @@ modify_named (a ∷ b ∷ c ∷ word ∷ words) =
       ]
     ]
 
+-- words that begin with `lm` have the form of the function that their fourth word names
 local_modify_named : (words : List (List ℕ)) → form_of (codes "lm" ∷ words) ≡ with_function (LocalModify Set) words
 unfolding form_of function_of
 local_modify_named [] = refl
@@ -183,7 +186,7 @@ pub named :
     → form_of (word ∷ words) ≡ with_function form words
 unfolding form_named
 named word words form found =
-    let passes = find_passes (λ form. go_by true (places form) (word ∷ [])) forms form found in
+    let passes = find_passes (λ form. matches_fixed true (places form) (word ∷ [])) forms form found in
     rw (first_is (word_of form) (places form) word (own_first form) passes) (own_word form words)
 
 -- a fixed word adds no operand
@@ -223,7 +226,7 @@ line_is_named word words form found =
       | inr (own, is) ↦ rw (named word words form found, is, by_first own word words) refl
     ]
 
--- a line whose first word names no form is refused
+-- a line whose first word names no form is refused as an unknown word
 pub line_is_unnamed : (word : List ℕ) (words : List (List ℕ)) → form_named word ≡ None → line_of_words (word ∷ words) ≡ Err UnknownWord
 unfolding line_of_words
 line_is_unnamed word words none = rw (unnamed word words none) refl

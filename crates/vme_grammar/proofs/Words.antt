@@ -29,9 +29,11 @@ first_word word rest is =
 abbrev Unspaced : List ℕ → Type 0
 Unspaced word = All (λ b. (b == 32) ≡ false) word
 
+-- bytes without a space and one more such byte contain no space
 one_more : (c : ℕ) (cs : List ℕ) → (c == 32) ≡ false → Unspaced cs → Unspaced (c ∷ cs)
 one_more c cs first more = All-cons (λ b. (b == 32) ≡ false) c cs first more
 
+-- the empty list contains no space
 none_spaced : Unspaced []
 none_spaced = λ k d less. absurd (omega arith)
 
@@ -43,6 +45,7 @@ hex_digit_is_no_space c d digit =
       | inr other ↦ ne_eqb c 32 other
     ]
 
+-- a decimal digit is not a space
 decimal_digit_is_no_space : (c d : ℕ) → decimal_digit c ≡ Some d → (c == 32) ≡ false
 decimal_digit_is_no_space c d digit =
     elim (cases_eq c 32) [
@@ -50,6 +53,7 @@ decimal_digit_is_no_space c d digit =
       | inr other ↦ ne_eqb c 32 other
     ]
 
+-- hexadecimal digits that spell a number contain no space
 hex_from_unspaced : (n m : ℕ) (word : List ℕ) → hex_from n word ≡ Some m → Unspaced word
 hex_from_unspaced n m [] read = none_spaced
 hex_from_unspaced n m (c ∷ cs) read =
@@ -58,6 +62,7 @@ hex_from_unspaced n m (c ∷ cs) read =
       | inr (d, digit) ↦ one_more c cs (hex_digit_is_no_space c d digit) (hex_from_unspaced (16 * n + d) m cs (rw digit at read))
     ]
 
+-- decimal digits that spell a number contain no space
 decimal_from_unspaced : (n m : ℕ) (word : List ℕ) → decimal_from n word ≡ Some m → Unspaced word
 decimal_from_unspaced n m [] read = none_spaced
 decimal_from_unspaced n m (c ∷ cs) read =
@@ -66,6 +71,7 @@ decimal_from_unspaced n m (c ∷ cs) read =
       | inr (d, digit) ↦ one_more c cs (decimal_digit_is_no_space c d digit) (decimal_from_unspaced (10 * n + d) m cs (rw digit at read))
     ]
 
+-- pairs of hexadecimal digits that spell bytes contain no space
 hex_pairs_unspaced : (bytes word : List ℕ) → hex_pairs word ≡ Some bytes → Unspaced word
 hex_pairs_unspaced bytes [] read = none_spaced
 hex_pairs_unspaced bytes (c ∷ []) read = absurd (cc)
@@ -136,6 +142,7 @@ small_is_word n (c ∷ []) read =
     ]
 small_is_word n (c ∷ d ∷ cs) read = absurd (let long : (length (c ∷ d ∷ cs) == 1) ≡ false = ne_eqb _ _ (λ e. omega (arith, e)) in let bad = rw long at read in cc)
 
+-- a byte that is not a space is one word
 digit_is_word : (c : ℕ) → (c == 32) ≡ false → IsWord (c ∷ [])
 digit_is_word c other = record { unspaced = one_more c [] other none_spaced; some = omega arith }
 

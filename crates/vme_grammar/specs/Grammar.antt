@@ -26,18 +26,18 @@ refuse true fault = Err fault
 refuse false fault = Ok tt
 
 -- whether words match the fixed words among some places; an absent word counts as `absent`
-abbrev pub go_by : Bool → List Place → List (List ℕ) → Bool
-go_by absent [] words = true
-go_by absent (Word text ∷ more) words =
-    option_map_or (λ word. bytes_eq word text) (slice_get words 0) absent && go_by absent more (drop 1 words)
-go_by absent (Of field ∷ more) words = go_by absent more (drop 1 words)
+abbrev pub matches_fixed : Bool → List Place → List (List ℕ) → Bool
+matches_fixed absent [] words = true
+matches_fixed absent (Word text ∷ more) words =
+    option_map_or (λ word. bytes_eq word text) (slice_get words 0) absent && matches_fixed absent more (drop 1 words)
+matches_fixed absent (Of field ∷ more) words = matches_fixed absent more (drop 1 words)
 
--- the form of a line: UnknownWord if the words, as far as they go, match no form; WordCount if none has all its fixed
--- words
+-- the form of a line: UnknownWord if the words match no form, absent words counted as matches; WordCount if they match
+-- a form only with absent words
 unfoldable pub form_of : List (List ℕ) → Result LineForm LineFault
 form_of words = do
-  _ ← refuse (not (list_any (λ form. go_by true (places form) words) forms)) UnknownWord
-  ok_or (find (λ form. go_by false (places form) words) forms) WordCount
+  _ ← refuse (not (list_any (λ form. matches_fixed true (places form) words) forms)) UnknownWord
+  ok_or (find (λ form. matches_fixed false (places form) words) forms) WordCount
 
 -- the operands that fields give, one word a field; the refusal is that of the first word from the left that is
 -- malformed

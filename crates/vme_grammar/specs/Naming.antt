@@ -9,11 +9,11 @@ use Rattle.vme_grammar.specs.declared.form.LineForm.{LineForm}
 use Rattle.vme_grammar.specs.declared.form.LineForm.TheVariants.{Read, Write, BlockRead, BlockWrite, BlockFill, Modify, LocalRead, LocalWrite, LocalModify, Await, Lock, Unlock, Put, Take}
 use Rattle.vme_grammar.specs.declared.function.Function.{Function}
 use Rattle.vme_grammar.specs.Forms.{name_of, functions, places, fields_of, forms, line_at}
-use Rattle.vme_grammar.specs.Grammar.{◌>>=◌, go_by, operands_of}
+use Rattle.vme_grammar.specs.Grammar.{◌>>=◌, matches_fixed, operands_of}
 
 -- the first form that begins with a word
 unfoldable pub form_named : List ℕ → Option LineForm
-form_named word = find (λ form. go_by true (places form) (word ∷ [])) forms
+form_named word = find (λ form. matches_fixed true (places form) (word ∷ [])) forms
 
 -- the function that a word names, if there is a word
 unfoldable pub function_of : Option (List ℕ) → Result Function LineFault

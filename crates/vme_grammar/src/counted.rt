@@ -6,6 +6,7 @@ ghost use Rattle.vme_grammar.specs.Modifies.{three_and_more, four_and_more};
 
 use vme_lexer::Words;
 
+/// Returns the word if there is exactly one, otherwise `None`.
 pub(crate) fn one_word(mut operands: Words<'_>) -> Option<&[u8]>
     ensures { MatchOption result ((length (words operands.entry.rest.now) == 1) ≡ false) (λ word.
         words operands.entry.rest.now ≡ word.now ∷ []) }
@@ -17,6 +18,7 @@ pub(crate) fn one_word(mut operands: Words<'_>) -> Option<&[u8]>
     Some(word)
 }
 
+/// Returns the words if there are exactly two, otherwise `None`.
 pub(crate) fn two_words(mut operands: Words<'_>) -> Option<(&[u8], &[u8])>
     ensures { MatchOption result ((length (words operands.entry.rest.now) == 2) ≡ false) (λ w.
         words operands.entry.rest.now ≡ w.0.now ∷ w.1.now ∷ []) }
@@ -29,6 +31,7 @@ pub(crate) fn two_words(mut operands: Words<'_>) -> Option<(&[u8], &[u8])>
     Some((a, b))
 }
 
+/// Returns the words if there are exactly three, otherwise `None`.
 pub(crate) fn three_words(mut operands: Words<'_>) -> Option<(&[u8], &[u8], &[u8])>
     ensures { MatchOption result ((length (words operands.entry.rest.now) == 3) ≡ false) (λ w.
         words operands.entry.rest.now ≡ w.0.now ∷ w.1.now ∷ w.2.now ∷ []) }
@@ -42,6 +45,7 @@ pub(crate) fn three_words(mut operands: Words<'_>) -> Option<(&[u8], &[u8], &[u8
     Some((a, b, c))
 }
 
+/// Returns the words if there are exactly four, otherwise `None`.
 pub(crate) fn four_words(mut operands: Words<'_>) -> Option<(&[u8], &[u8], &[u8], &[u8])>
     ensures { MatchOption result ((length (words operands.entry.rest.now) == 4) ≡ false) (λ w.
         words operands.entry.rest.now ≡ w.0.now ∷ w.1.now ∷ w.2.now ∷ w.3.now ∷ []) }
@@ -56,6 +60,7 @@ pub(crate) fn four_words(mut operands: Words<'_>) -> Option<(&[u8], &[u8], &[u8]
     Some((a, b, c, d))
 }
 
+/// Returns the words if there are exactly five, otherwise `None`.
 pub(crate) fn five_words(mut operands: Words<'_>) -> Option<(&[u8], &[u8], &[u8], &[u8], &[u8])>
     ensures { MatchOption result ((length (words operands.entry.rest.now) == 5) ≡ false) (λ w.
         words operands.entry.rest.now ≡ w.0.now ∷ w.1.now ∷ w.2.now ∷ w.3.now ∷ w.4.now ∷ []) }

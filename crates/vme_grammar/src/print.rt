@@ -13,6 +13,7 @@ use vme_lanes::{DataLines, Location};
 
 const DIGITS: [u8; 16] = *b"0123456789abcdef";
 
+/// Returns the lower-case hexadecimal digit of a number below 16.
 fn digit(n: u8) -> u8
     requires { n < 16 }
     ensures { result ≡ digit n }
@@ -21,7 +22,7 @@ fn digit(n: u8) -> u8
 }
 
 /// Reserves capacity for `fixed` bytes and for two digits for each of `bytes`.
-fn take_buffer(text: &mut Vec<u8>, fixed: usize, bytes: &[u8]) -> Result<(), AllocError>
+fn reserve_hex(text: &mut Vec<u8>, fixed: usize, bytes: &[u8]) -> Result<(), AllocError>
     ensures capacity { OnOk result
         (vec_len text.new + (fixed + 2 * length bytes.now) ≤ vec_capacity text.new) }
     ensures kept { text.new.items ≡ text.old.items }
@@ -62,11 +63,12 @@ pub fn print_hex(text: &mut Vec<u8>, bytes: &[u8]) -> Result<(), AllocError>
     ensures text { OnOk result (text.new.items ≡ text.old.items ++ hex_text bytes.now) }
     ensures kept { OnErr result (text.new.items ≡ text.old.items) }
 {
-    take_buffer(text, 0, bytes)?;
+    reserve_hex(text, 0, bytes)?;
     push_hex_bytes(text, bytes);
     Ok(())
 }
 
+/// Returns the two hexadecimal digits of a byte.
 fn hex_digits(byte: u8) -> [u8; 2]
     ensures { result ≡ hex_byte byte }
 {
@@ -135,6 +137,7 @@ fn write_text(high: bool) -> &'static [u8; 14]
     }
 }
 
+/// Returns the two digits of a data lane, or two dashes if it carries nothing.
 fn lane_digits(lane: Option<u8>) -> [u8; 2]
     ensures { result ≡ lane_text lane }
 {
@@ -171,7 +174,7 @@ fn all_lanes(lines: DataLines) -> [u8; 16]
     ]
 }
 
-/// The greatest length of the line of a cycle's signals.
+/// The greatest length in bytes of the line of a cycle's signals, its LF included.
 const SIGNALS_LEN: usize = 73;
 
 /// Appends the line of a cycle's signals: the code, the address, the levels of the data strobes,
@@ -213,7 +216,7 @@ pub fn print_read(text: &mut Vec<u8>, bytes: &[u8]) -> Result<(), AllocError>
         (text.new.items ≡ text.old.items ++ output_line (outcome_text (Read bytes.now))) }
     ensures kept { OnErr result (text.new.items ≡ text.old.items) }
 {
-    take_buffer(text, 6, bytes)?;
+    reserve_hex(text, 6, bytes)?;
     push_text(text, b"read ");
     push_hex_bytes(text, bytes);
     push_text(text, b"\n");
@@ -231,7 +234,7 @@ pub fn print_old(text: &mut Vec<u8>, bytes: &[u8]) -> Result<(), AllocError>
         (text.new.items ≡ text.old.items ++ output_line (outcome_text (Old bytes.now))) }
     ensures kept { OnErr result (text.new.items ≡ text.old.items) }
 {
-    take_buffer(text, 5, bytes)?;
+    reserve_hex(text, 5, bytes)?;
     push_text(text, b"old ");
     push_hex_bytes(text, bytes);
     push_text(text, b"\n");
@@ -265,7 +268,7 @@ pub fn print_berr(text: &mut Vec<u8>, count: u16, bytes: &[u8]) -> Result<(), Al
 {
     let mut buffer = itoa::Buffer::new();
     let number = buffer.format(count).as_bytes();
-    take_buffer(text, 7 + number.len(), bytes)?;
+    reserve_hex(text, 7 + number.len(), bytes)?;
     push_text(text, b"berr ");
     push_text(text, number);
     push_more_bytes(text, bytes);
@@ -299,6 +302,7 @@ pub fn print_refusal(text: &mut Vec<u8>, fault: CycleFault) -> Result<(), AllocE
     text.extend_from_slice(&refusal(fault))
 }
 
+/// Returns the line of a refused request.
 fn refusal(fault: CycleFault) -> [u8; 11]
     ensures { result ≡ output_line (codes "refused " ++ cycle_fault_text fault) }
 {
@@ -329,6 +333,7 @@ pub fn print_line_refusal(text: &mut Vec<u8>, fault: LineFault) -> Result<(), Al
     text.extend_from_slice(&line_refusal(fault))
 }
 
+/// Returns the line of a refused line.
 fn line_refusal(fault: LineFault) -> [u8; 16]
     ensures { result ≡ output_line (codes "line refused " ++ line_fault_text fault) }
 {

@@ -12,7 +12,7 @@ pub struct SliceSource<'a> {
     most: usize,
     left: usize,
     marked: bool,
-    ghost moves: { 0 < most },
+    ghost positive: { 0 < most },
 }
 
 impl<'a> SliceSource<'a> {
@@ -87,7 +87,7 @@ pub struct RoomSink {
     most: usize,
     capacity: usize,
     marked: bool,
-    ghost moves: { 0 < most },
+    ghost positive: { 0 < most },
     ghost reserved: { vec_len bytes + capacity ≤ vec_capacity bytes },
 }
 

@@ -69,7 +69,8 @@ pub fn place(location: Location, bytes: &[u8]) -> DataLines
     }
 }
 
-/// The lanes with these bytes on D31 to D00. The address lines carry nothing.
+/// The lanes with these bytes, or with nothing, on D31-D24 to D07-D00. The address lines carry
+/// nothing.
 fn narrow(first: Option<u8>, second: Option<u8>, third: Option<u8>, last: Option<u8>) -> DataLines
     ensures { result.lanes ≡ None ∷ None ∷ None ∷ None ∷ first ∷ second ∷ third ∷ last ∷ [] }
 {

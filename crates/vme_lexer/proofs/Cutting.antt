@@ -14,13 +14,14 @@ use Rattle.vme_lexer.specs.Words.{words, is_nonempty, IsCut, IsUncut}
 abbrev is_byte : ℕ → ℕ → Bool
 is_byte byte = λ b. b == byte
 
+-- an index that std's `position` finds is below the length, and is the one that `position_or_len` finds
 position_is : (p : ℕ → Bool) (xs : List ℕ) (i : ℕ) → position p xs ≡ Some i → (i < length xs) × (position_or_len p xs ≡ i)
 position_is p xs i place =
     let found = cond_some (nat_lt (position_or_len p xs) (length xs)) (position_or_len p xs) i place in
     let lt = ltb-true (position_or_len p xs) (length xs) found.0 in
     (omega (arith, lt, found.1), found.1)
 
--- the first place that a search for the byte finds is std's `position`
+-- the index of the first occurrence of the byte is std's `position`
 pub place_found : (byte : ℕ) (text : List ℕ) (found : Option ℕ) → IsFirstByte (λ b. b == byte) text found → found ≡ position (λ b. b == byte) text
 place_found byte text None none =
     elim (cases_lt (position_or_len (is_byte byte) text) (length text)) [
@@ -53,7 +54,7 @@ one_part p (x ∷ xs) none =
       | inr miss ↦ slice_split-cons_no p x xs miss ∙ ap (onto_first x) (one_part p xs (let rest = simp miss at none in omega arith))
     ]
 
--- a text without the byte is uncut
+-- a text without the byte is one part
 pub uncut : (byte : ℕ) (text : List ℕ) → position (λ b. b == byte) text ≡ None → IsUncut byte text
 uncut byte text place =
     elim (cases_lt (position_or_len (is_byte byte) text) (length text)) [
@@ -61,6 +62,7 @@ uncut byte text place =
       | inr le ↦ one_part (is_byte byte) text le
     ]
 
+-- the first of two or more parts, without the CR at its end, is a line
 lines_of_more : (x : List ℕ) (parts : List (List ℕ)) → 0 < length parts → lines_of_parts (x ∷ parts) ≡ strip_carriage_return x ∷ lines_of_parts parts
 lines_of_more x [] some = absurd (omega arith)
 lines_of_more x (y ∷ more) some = refl

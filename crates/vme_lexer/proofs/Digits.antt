@@ -10,11 +10,12 @@ use Rattle.vme_lexer.specs.Numbers.{hex_digit, hex_from, hex_pairs, hex_bytes}
 abbrev pub Counts : Option ℕ → ℕ → Type 0
 Counts digit count = MatchOption digit (count ≡ 2 ^ 32) (λ d. (count ≡ d) × (d < 16))
 
--- whether `Counts` holds
+-- `Counts` as a test
 abbrev pub is_count : Option ℕ → ℕ → Bool
 is_count None count = nat_eq count 4294967296
 is_count (Some d) count = nat_eq count d && nat_lt d 16
 
+-- if a conjunction holds, both its parts hold
 both_true : (x y : Bool) → (x && y) ≡ true → (x ≡ true) × (y ≡ true)
 both_true true true both = (refl, refl)
 both_true true false both = cc
@@ -31,6 +32,7 @@ pub most_count : (digit : Option ℕ) (count : ℕ) → Counts digit count → c
 most_count None count counts = omega (arith, counts)
 most_count (Some d) count counts = omega (arith, counts.0, counts.1)
 
+-- if `is_count` returns true, `Counts` holds
 count_of : (digit : Option ℕ) (count : ℕ) → is_count digit count ≡ true → Counts digit count
 count_of None count is = eqb-true count 4294967296 is
 count_of (Some d) count is = let both = both_true (nat_eq count d) (nat_lt d 16) is in (eqb-true count d both.0, ltb-true d 16 both.1)
@@ -48,11 +50,13 @@ pub record IsRead (n k : ℕ) (rest word : List ℕ) : Type 0 where
   pub read : n < 2 ^ 32 → hex_from n rest ≡ hex_from 0 word
   pub small : n < 2 ^ 32 → n < 16 ^ k
   pub unread : 2 ^ 32 ≤ n → hex_from 0 word ≡ None
-  pub capacity : n + 2 ^ 32 ≤ 2 ^ 32 * 16 ^ k
+  pub bound : n + 2 ^ 32 ≤ 2 ^ 32 * 16 ^ k
 
+-- 16 to the next power is sixteen times as much
 sixteenfold : (k : ℕ) → 16 ^ (k + 1) ≡ 16 * 16 ^ k
 sixteenfold k = ap (λ j. 16 ^ j) (omega arith) ∙ pow-succ' 16 k
 
+-- one more byte keeps `IsRead`, by the digit that the byte is
 read_by :
     (n k c count : ℕ) (rest word : List ℕ) (digit : Option ℕ) → k < 8 → hex_digit c ≡ digit → Counts digit count → IsRead n k (c ∷ rest) word
     → IsRead (16 * n + count) (k + 1) rest word
@@ -60,7 +64,7 @@ read_by n k c count rest word None few none counts so = record {
   read = λ less. absurd (omega (arith, less, counts));
   small = λ less. absurd (omega (arith, less, counts));
   unread = λ more. elim (cases_lt n (2 ^ 32)) [ inl less ↦ sym (so.read less) ∙ rw none refl | inr le ↦ so.unread le ];
-  capacity = let more : 16 ^ (k + 1) ≡ 16 * 16 ^ k = sixteenfold k in omega (arith, counts, so.capacity, more);
+  bound = let more : 16 ^ (k + 1) ≡ 16 * 16 ^ k = sixteenfold k in omega (arith, counts, so.bound, more);
 }
 read_by n k c count rest word (Some d) few some counts so =
     let more : 16 ^ (k + 1) ≡ 16 * 16 ^ k = sixteenfold k in
@@ -71,31 +75,31 @@ read_by n k c count rest word (Some d) few some counts so =
         | inl less ↦ absurd (let low = below_power 16 n k 7 (omega arith) (so.small less) (omega (arith, few)) in omega (arith, counts.0, counts.1, low, much))
         | inr le ↦ so.unread le
       ];
-      capacity = omega (arith, counts.0, counts.1, so.capacity, more);
+      bound = omega (arith, counts.0, counts.1, so.bound, more);
     }
 
 -- one more digit does not overflow
-pub buffer_for : (n k count : ℕ) (digit : Option ℕ) → k < 8 → Counts digit count → n + 2 ^ 32 ≤ 2 ^ 32 * 16 ^ k → 16 * n + count < 2 ^ 64
-buffer_for n k count digit few counts capacity =
+pub digit_fits : (n k count : ℕ) (digit : Option ℕ) → k < 8 → Counts digit count → n + 2 ^ 32 ≤ 2 ^ 32 * 16 ^ k → 16 * n + count < 2 ^ 64
+digit_fits n k count digit few counts bound =
     let high : 16 ^ k ≤ 16 ^ 7 = pow-le-pow_right {n = 16} (omega arith) {i = k} {j = 7} (omega (arith, few)) in
     let low : count ≤ 2 ^ 32 = most_count digit count counts in
-    omega (arith, high, capacity, low)
+    omega (arith, high, bound, low)
 
 -- one more byte keeps `IsRead`
 pub read_more :
     (n k c count : ℕ) (rest word : List ℕ) → k < 8 → Counts (hex_digit c) count → IsRead n k (c ∷ rest) word → IsRead (16 * n + count) (k + 1) rest word
 read_more n k c count rest word few counts so = read_by n k c count rest word (hex_digit c) few refl counts so
 
--- the bytes of a prefix, and then those that were read
+-- the bytes of a prefix, followed by those that were read
 abbrev pub with_prefix : List ℕ → Option (List ℕ) → Option (List ℕ)
 with_prefix prefix bytes = option_map (λ bs. prefix ++ bs) bytes
 
--- to add two lists as one prefix is to add the second and then the first
+-- a prefix of two lists is the second as a prefix and then the first
 with_prefix-append : (prefix bytes : List ℕ) (read : Option (List ℕ)) → with_prefix (prefix ++ bytes) read ≡ with_prefix prefix (with_prefix bytes read)
 with_prefix-append prefix bytes None = refl
 with_prefix-append prefix bytes (Some bs) = ap Some (append_assoc prefix bytes bs)
 
--- a pair of digits is one more byte
+-- two digits at the start of the rest spell one more byte
 pub hex_pairs-more :
     (bytes new rest tail : List ℕ) (high low : ℕ) → 2 ≤ length rest → hex_digit (get_or rest 0 0) ≡ Some high → hex_digit (get_or rest 1 0) ≡ Some low
     → new ≡ bytes ++ (16 * high + low) ∷ [] → tail ≡ drop 2 rest → with_prefix new (hex_pairs tail) ≡ with_prefix bytes (hex_pairs rest)
@@ -113,7 +117,7 @@ pub record IsSpelled (bytes : List ℕ) (sum : ℕ) (rest word : List ℕ) : Typ
   pub spelled : sum < 2 ^ 32 → with_prefix bytes (hex_pairs rest) ≡ hex_pairs word
   pub small : sum < 2 ^ 32 → sum ≤ 255 * length bytes
   pub unspelled : 2 ^ 32 ≤ sum → hex_pairs word ≡ None
-  pub capacity : sum ≤ 17 * 2 ^ 32 * length bytes
+  pub bound : sum ≤ 17 * 2 ^ 32 * length bytes
 
 -- if one of the first two bytes is no digit, the list spells no bytes
 unpaired :
@@ -134,9 +138,10 @@ spelled_none bytes new sum pair rest tail word much most none longer so = record
   spelled = λ less. absurd (omega (arith, less, much));
   small = λ less. absurd (omega (arith, less, much));
   unspelled = λ more. elim (cases_lt sum (2 ^ 32)) [ inl less ↦ sym (so.spelled less) ∙ ap (with_prefix bytes) none | inr le ↦ so.unspelled le ];
-  capacity = omega (arith, so.capacity, most, longer);
+  bound = omega (arith, so.bound, most, longer);
 }
 
+-- one more pair keeps `IsSpelled`, by the digits that its bytes are
 spelled_by :
     (bytes new : List ℕ) (sum high low : ℕ) (rest tail word : List ℕ) (first second : Option ℕ) → length bytes < 256 → 2 ≤ length rest
     → hex_digit (get_or rest 0 0) ≡ first → hex_digit (get_or rest 1 0) ≡ second → Counts first high → Counts second low
@@ -157,7 +162,7 @@ spelled_by bytes new sum high low rest tail word (Some a) (Some b) few long one 
         | inl less ↦ absurd (let before = so.small less in omega (arith, before, few, more, high_is.0, high_is.1, low_is.0, low_is.1))
         | inr le ↦ so.unspelled le
       ];
-      capacity = omega (arith, so.capacity, longer, high_is.0, high_is.1, low_is.0, low_is.1);
+      bound = omega (arith, so.bound, longer, high_is.0, high_is.1, low_is.0, low_is.1);
     }
 
 -- one more pair keeps `IsSpelled`
@@ -168,7 +173,7 @@ pub spelled_more :
 spelled_more bytes new sum high low rest tail word few long high_is low_is pushed cut longer so =
     spelled_by bytes new sum high low rest tail word _ _ few long refl refl high_is low_is pushed cut longer so
 
--- a word spells no bytes if its last digit is alone or a byte of it is no digit
+-- a word spells no bytes if it has an odd number of digits, or the sum of its pairs is at least 2 ^ 32
 pub unspelled_word :
     (bytes : List ℕ) (sum : ℕ) (rest word : List ℕ) → length rest < 2 → (length rest ≡ 0 → 2 ^ 32 ≤ sum) → IsSpelled bytes sum rest word
     → hex_pairs word ≡ None
@@ -177,11 +182,12 @@ unspelled_word bytes sum (c ∷ []) word short none so =
     elim (cases_lt sum (2 ^ 32)) [ inl less ↦ sym (so.spelled less) | inr le ↦ so.unspelled le ]
 unspelled_word bytes sum (c ∷ d ∷ cs) word short none so = absurd (omega arith)
 
+-- a conditional between no bytes and no bytes gives no bytes
 either_none : (b : Bool) (bytes : Option (List ℕ)) → bytes ≡ None → (if b then bytes else None) ≡ None
 either_none true bytes none = none
 either_none false bytes none = refl
 
--- a word whose pairs spell no bytes spells none of any number
+-- a word whose pairs spell no bytes spells no bytes, whatever the limit
 pub unspelled_bytes : (most : ℕ) (word : List ℕ) → hex_pairs word ≡ None → hex_bytes most word ≡ None
 unfolding hex_bytes
 unspelled_bytes most word none = either_none _ (hex_pairs word) none

@@ -7,7 +7,7 @@ use crate::parts::cut_far;
 
 const LINE_END: u8 = b'\n';
 
-/// The line without the CR at its end, if it ends with CR.
+/// Returns the line without the CR at its end, if it ends with CR.
 fn without_return(line: &[u8]) -> &[u8]
     ensures { result.now ≡ strip_carriage_return line.now }
 {
@@ -17,7 +17,7 @@ fn without_return(line: &[u8]) -> &[u8]
     }
 }
 
-/// The first line without its end, and the text after it.
+/// Returns the first line without its end, and the text after it.
 #[tactic(auto, using(crate::proofs::Cutting::lines_cut, crate::proofs::Cutting::lines_uncut))]
 fn split_line(text: &[u8]) -> (&[u8], &[u8])
     requires { 0 < length text.now }

@@ -23,7 +23,7 @@ static DIGITS: [u64; 256] = [
     X, X, X, X,
 ];
 
-/// The value of `c` as a hexadecimal digit, or `X` if it is not a digit.
+/// Returns the value of `c` as a hexadecimal digit, or `X` if it is not a digit.
 fn hex_digit(c: u8) -> u64
     ensures digit { MatchOption (hex_digit c) (result ≡ 2 ^ 32) (λ d. (result ≡ d) × (d < 16)) }
 {
@@ -130,7 +130,7 @@ pub fn local_bytes(word: &[u8]) -> Option<Datum>
     }
 }
 
-/// The value of `c` as a decimal digit, or `None` if it is not a digit.
+/// Returns the value of `c` as a decimal digit, or `None` if it is not a digit.
 fn decimal_digit(c: u8) -> Option<u8>
     ensures value { result ≡ decimal_digit c }
     ensures small { IfSome result (λ d. d < 10) }

@@ -5,14 +5,15 @@ ghost use Rattle.vme_lexer.specs.Words.{IsCut, IsUncut};
 
 use memchr::memchr;
 
-/// The index of the first `byte` in `text`, compared byte by byte.
+/// Returns the index of the first `byte` in `text`. It compares byte by byte.
 fn first_place(text: &[u8], byte: u8) -> Option<usize>
     ensures { result ≡ position (λ b. b == byte) text.now }
 {
     text.iter().position(|b| *b == byte)
 }
 
-/// The index of the first `byte` in `text`, eight bytes at a time: quick for short texts.
+/// Returns the index of the first `byte` in `text`. It searches eight bytes at a time, which is
+/// fast for short texts.
 fn first_near_place(text: &[u8], byte: u8) -> Option<usize>
     ensures { result ≡ position (λ b. b == byte) text.now }
 {
@@ -31,7 +32,8 @@ fn first_near_place(text: &[u8], byte: u8) -> Option<usize>
     }
 }
 
-/// The text before the first `byte`, and the text after it; `None` if `byte` is not there.
+/// Returns the text before the first `byte` and the text after it, or `None` if `text` does not
+/// contain `byte`.
 #[tactic(auto, using(crate::proofs::Cutting::cut_at, crate::proofs::Cutting::uncut))]
 pub(crate) fn cut(text: &[u8], byte: u8) -> Option<(&[u8], &[u8])>
     ensures { MatchOption result (IsUncut byte text.now) (λ parts.
@@ -41,7 +43,8 @@ pub(crate) fn cut(text: &[u8], byte: u8) -> Option<(&[u8], &[u8])>
     Some((text.split_at(end).0, text.split_at(end + 1).1))
 }
 
-/// The index of the first `byte` in `text`, by `memchr`: quick for long texts.
+/// Returns the index of the first `byte` in `text`. It calls `memchr`, which is fast for long
+/// texts.
 #[tactic(auto, using(crate::proofs::Cutting::place_found))]
 fn first_far_place(text: &[u8], byte: u8) -> Option<usize>
     ensures { result ≡ position (λ b. b == byte) text.now }
@@ -49,8 +52,8 @@ fn first_far_place(text: &[u8], byte: u8) -> Option<usize>
     memchr(byte, text)
 }
 
-/// The text before the first `byte`, and the text after it, searched by `memchr`; `None` if `byte`
-/// is not there.
+/// Returns the text before the first `byte` and the text after it, or `None` if `text` does not
+/// contain `byte`. It searches with `memchr`.
 #[tactic(auto, using(crate::proofs::Cutting::cut_at, crate::proofs::Cutting::uncut))]
 pub(crate) fn cut_far(text: &[u8], byte: u8) -> Option<(&[u8], &[u8])>
     ensures { MatchOption result (IsUncut byte text.now) (λ parts.

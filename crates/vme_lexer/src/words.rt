@@ -8,7 +8,7 @@ use crate::parts::cut;
 
 const SPACE: u8 = b' ';
 
-/// The first word, and the rest of the line after it.
+/// Returns the first word and the rest of the line after it, or `None` if the line has no word.
 #[tactic(auto, using(crate::proofs::Cutting::words_cut, crate::proofs::Cutting::words_cut_empty, crate::proofs::Cutting::words_uncut))]
 fn split_word(line: &[u8]) -> Option<(&[u8], &[u8])>
     ensures { MatchOption result (words line.now ≡ []) (λ w. words line.now ≡ w.0.now ∷ words w.1.now) }

@@ -21,25 +21,28 @@ use Rattle.vme_grammar.specs.declared.line.Line.{Line}
 use Rattle.vme_script.specs.Configurations.{Configuration}
 use Rattle.vme_line_task.specs.Scripts.{Attempt, Transferring, Awaiting, Sharing, line_attempt}
 use Rattle.vme_line_task.specs.Tenures.{IsGranted}
-use Rattle.vme_line_task.specs.Tables.{moves_next, waits_next, shares_next, attempt_next, asks_again, next_wants_retry, Attempts, next_attempt, attempts_of, lawful_next, next_given}
+use Rattle.vme_line_task.specs.Tables.{transferring_next, waits_next, shares_next, attempt_next, asks_again, next_wants_retry, Attempts, next_attempt, attempts_of, lawful_next, next_given}
 
 -- a task's outcome is final
 task_stays : (job : Job) (given : Inputs) (last : Option EventReply) (outcome : Outcome) → next_of job given ≡ Returns outcome
     → next_of job (last ∷ given) ≡ Returns outcome
 task_stays job given last outcome ended = ap (λ next. next_after job next last given) ended
 
-moves_stays : (job : Job) (given : Inputs) (last : Option EventReply) (answer : LineReply) (next : NextStep Outcome) → next_of job given ≡ next
-    → moves_next next ≡ Returns answer → moves_next (next_of job (last ∷ given)) ≡ Returns answer
-moves_stays job given last answer NotStarted is ends = absurd cc
-moves_stays job given last answer (Invokes call) is ends = absurd cc
-moves_stays job given last answer (Returns outcome) is ends = ap moves_next (task_stays job given last outcome is) ∙ ends
+-- the reply of a transfer or a local command is final
+transferring_stays : (job : Job) (given : Inputs) (last : Option EventReply) (answer : LineReply) (next : NextStep Outcome) → next_of job given ≡ next
+    → transferring_next next ≡ Returns answer → transferring_next (next_of job (last ∷ given)) ≡ Returns answer
+transferring_stays job given last answer NotStarted is ends = absurd cc
+transferring_stays job given last answer (Invokes call) is ends = absurd cc
+transferring_stays job given last answer (Returns outcome) is ends = ap transferring_next (task_stays job given last outcome is) ∙ ends
 
+-- the reply of a read that waits for bytes is final
 waits_stays : (job : Job) (want : List ℕ) (given : Inputs) (last : Option EventReply) (answer : LineReply) (next : NextStep Outcome) → next_of job given ≡ next
     → waits_next want next ≡ Returns answer → waits_next want (next_of job (last ∷ given)) ≡ Returns answer
 waits_stays job want given last answer NotStarted is ends = absurd cc
 waits_stays job want given last answer (Invokes call) is ends = absurd cc
 waits_stays job want given last answer (Returns outcome) is ends = ap (waits_next want) (task_stays job given last outcome is) ∙ ends
 
+-- the reply of a request to a lock or a mailbox is final
 shares_stays : (s : SharedJob) (given : Inputs) (last : Option EventReply) (answer : LineReply) (next : NextStep SharedOutcome) → shared_next s given ≡ next
     → shares_next next ≡ Returns answer → shares_next (shared_next s (last ∷ given)) ≡ Returns answer
 shares_stays s given last answer NotStarted is ends = absurd cc
@@ -49,7 +52,7 @@ shares_stays s given last answer (Returns outcome) is ends = ap shares_next (end
 -- an attempt's reply is final
 attempt_stays : (a : Attempt) (given : Inputs) (last : Option EventReply) (answer : LineReply) → attempt_next a given ≡ Returns answer
     → attempt_next a (last ∷ given) ≡ Returns answer
-attempt_stays (Transferring job) given last answer ends = moves_stays job given last answer (next_of job given) refl ends
+attempt_stays (Transferring job) given last answer ends = transferring_stays job given last answer (next_of job given) refl ends
 attempt_stays (Awaiting job want) given last answer ends = waits_stays job want given last answer (next_of job given) refl ends
 attempt_stays (Sharing s) given last answer ends = shares_stays s given last answer (shared_next s given) refl ends
 
@@ -58,21 +61,25 @@ pub record EndsAtOnce (answer : LineReply) : Type 0 where
   pub granted : IsGranted answer
   pub last : asks_again answer ≡ false
 
+-- the reply `Berr` to a lock or a mailbox is no denial and asks for no other attempt
 at_once : (answer : LineReply) → Returns (Shared shared.Berr) ≡ Returns answer → EndsAtOnce answer
 at_once answer ends =
     let is : replies.Shared shared.Berr ≡ answer = cc in
     subst EndsAtOnce is (record { granted = (λ denied. absurd cc, λ denied. absurd cc); last = refl })
 
+-- a stage that has ended before its first call has ended at once
 stage_not_begun : (stage : Stage) (job : Result Job CycleFault) (answer : LineReply)
     → shares_next (next_at (stage_begun stage [] job)) ≡ Returns answer → EndsAtOnce answer
 stage_not_begun stage (Ok job) answer ends = absurd cc
 stage_not_begun stage (Err fault) answer ends = at_once answer ends
 
+-- a stage that has ended at its first call has ended at once
 stage_just_begun : (s : SharedJob) (stage : Stage) (job : Result Job CycleFault) (answer : LineReply)
     → shares_next (next_at (progress_given s None (stage_begun stage [] job))) ≡ Returns answer → EndsAtOnce answer
 stage_just_begun s stage (Ok job) answer ends = absurd cc
 stage_just_begun s stage (Err fault) answer ends = at_once answer ends
 
+-- an attempt that has ended before its first call has ended at once
 not_begun : (a : Attempt) (answer : LineReply) → attempt_next a [] ≡ Returns answer → EndsAtOnce answer
 not_begun (Transferring job) answer ends = absurd cc
 not_begun (Awaiting job want) answer ends = absurd cc
@@ -96,6 +103,7 @@ last_attempt a made =
       | inr last ↦ rw last (λ answer ends. subst (λ next. (next_wants_retry next && nat_lt 1 made.left) ≡ false) ends last)
     ]
 
+-- an attempt of a line that has ended, after all that the line was given, is the last one
 all_last : (a : Attempt) (tries : ℕ) (given : Inputs) → IsLast a (attempts_of a tries given)
 all_last a tries [] = λ answer ends. rw (not_begun a answer ends).last refl
 all_last a tries (last ∷ before) =

@@ -6,7 +6,7 @@ use Rattle.std.proofs.lemmas.List.{length-map}
 use Rattle.std.proofs.lemmas.Bool.Decides.{nat_tests}
 use Rattle.vme_shared.specs.Mailboxes.{IsMailbox}
 use Rattle.vme_script.specs.declared.mailbox_numbers.MailboxNumbers.TheVariants.{Declared}
-use Rattle.vme_script.specs.MailboxNumbers.{may_ask}
+use Rattle.vme_script.specs.MailboxNumbers.{may_name}
 use Rattle.vme_grammar.specs.declared.line.Line.{Line}
 use Rattle.vme_grammar.specs.declared.line.Line.TheVariants as lines
 use Rattle.vme_script.specs.declared.script.ScriptLine.{ScriptLine}
@@ -14,7 +14,7 @@ use Rattle.vme_script.specs.Configurations.{Configuration}
 use Rattle.vme_script.specs.Lawful.{IsLawful}
 use Rattle.vme_line_task.specs.Scripts.{HasMailbox, HasItsMailbox}
 
--- a number in range is that of a mailbox
+-- a number from 1 to the number of mailboxes is that of a mailbox
 there : (config : Configuration) → IsLawful config → (box : ℕ) → 0 < box → box ≤ length config.mailboxes → HasMailbox config box
 there config lawful box first last =
     elim (slice_get_cases config.mailboxes (box - 1)).1 [
@@ -26,6 +26,7 @@ there config lawful box first last =
       | inr past ↦ absurd (omega (arith, past.0))
     ]
 
+-- a number that passes the test of declared mailboxes is that of a mailbox
 named : (config : Configuration) → IsLawful config → (box : ℕ) → (nat_le 1 box && nat_le box (length config.mailboxes)) ≡ true
     → HasMailbox config box
 named config lawful box is =
@@ -33,7 +34,8 @@ named config lawful box is =
     let last : box ≤ length config.mailboxes = grind (arith, nat_tests) in
     there config lawful box first last
 
-asked : (config : Configuration) → IsLawful config → (line : Line) → may_ask (Declared (length config.mailboxes)) line ≡ true
+-- a line that names only declared mailboxes has its mailbox
+asked : (config : Configuration) → IsLawful config → (line : Line) → may_name (Declared (length config.mailboxes)) line ≡ true
     → HasItsMailbox config line
 asked config lawful (lines.Bus request) may = tt
 asked config lawful (lines.Local cmd) may = tt
@@ -51,7 +53,7 @@ its_mailbox config lawful i j script line in_scripts in_script =
       | inl found ↦
           let same : found.0.line ≡ line = same_Some found.0.line line
           (sym (slice_get-map (λ (one : ScriptLine). one.line) script j ∙ ap (option_map (λ (one : ScriptLine). one.line)) found.2) ∙ in_script) in
-          asked config lawful line (subst (λ (l : Line). may_ask (Declared (length config.mailboxes)) l ≡ true) same
+          asked config lawful line (subst (λ (l : Line). may_name (Declared (length config.mailboxes)) l ≡ true) same
           (lawful.named i j script found.0 in_scripts found.2))
       | inr past ↦
           absurd (omega (arith, past.0, slice_get_within (map (λ one. one.line) script) j line in_script, length-map script (λ one. one.line)))

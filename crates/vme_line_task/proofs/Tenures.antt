@@ -1,4 +1,4 @@
--- A transfer keeps its tenure of the bus: what follows good replies.
+-- A transfer keeps its tenure of the bus: what follows replies that fit and are no denials.
 use Rattle.std.proofs.Common.{◌≡◌, ◌≢◌, ℕ, true, [], ◌∷◌, Some, None, refl, ap, sym, subst, ◌∙◌}
 use Rattle.vme_memory.specs.declared.reply.Reply.{Reply}
 use Rattle.vme_memory.specs.declared.reply.Reply.TheVariants.{Bytes, Done, Berr}
@@ -6,30 +6,29 @@ use Rattle.vme_arbiter.specs.declared.command.ArbCmd.{ArbCmd}
 use Rattle.vme_arbiter.specs.declared.command.ArbReply.{ArbReply}
 use Rattle.vme_arbiter.specs.declared.command.ArbReply.TheVariants as arb_replies
 use Rattle.vme_arbiter.specs.Arbitration.{Arbitration}
-use Rattle.vme_arbiter.specs.Masters.{StandsAsReplied}
+use Rattle.vme_arbiter.specs.Masters.{MatchesReply}
 use Rattle.vme_core.specs.declared.event.EventReply.{EventReply}
 use Rattle.vme_core.specs.declared.event.EventReply.TheVariants as replies
 use Rattle.vme_core.specs.Calls.{Call, OnBus}
 use Rattle.vme_core.specs.NextSteps.{NextStep, Invokes, Returns}
-use Rattle.vme_master.specs.declared.job.BusJob.{BusJob}
 use Rattle.vme_master.specs.declared.job.LocalJob.{LocalJob}
 use Rattle.vme_master.specs.declared.job.Job.{Job}
 use Rattle.vme_master.specs.declared.job.Job.TheVariants.{Bus, Local}
 use Rattle.vme_master.specs.declared.outcome.Outcome.{Outcome}
 use Rattle.vme_master.specs.declared.outcome.Outcome.TheVariants as outcomes
 use Rattle.vme_master.specs.Jobs.{local_call, fits}
-use Rattle.vme_master.specs.Tables as tasks
 use Rattle.vme_master.specs.Tables.{Inputs, next_of, outcome_by, row_of_reply}
 use Rattle.vme_master.proofs.lemmas.Tenures.{ends_freed}
 use Rattle.vme_master.proofs.lemmas.Locals.{local_calls}
 use Rattle.vme_shared.proofs.lemmas.Granted.{expected_granted, outcome_granted}
-use Rattle.vme_line_task.specs.Tenures.{job_arb_reply, IsGood}
+use Rattle.vme_line_task.specs.Tenures.{job_arb_reply, IsUndeniedReply}
 
 -- an end that is a denial
 abbrev IsDenial : NextStep Outcome → Type 0
 IsDenial (Returns outcomes.Denied) = Unit {0}
 IsDenial next = ⊥
 
+-- an end whose outcome is no denial is no denial
 end_granted : (outcome : Outcome) → outcome ≢ outcomes.Denied → IsDenial (Returns outcome) → ⊥
 end_granted outcomes.Denied good denial = good refl
 end_granted (outcomes.Read bytes) good denial = denial
@@ -37,11 +36,8 @@ end_granted outcomes.Done good denial = denial
 end_granted (outcomes.Old bytes) good denial = denial
 end_granted (outcomes.Berr count bytes) good denial = denial
 
-datum_granted : (j : BusJob) (i : ℕ) → IsDenial (Invokes (tasks.datum_or_done j i)) → ⊥
-datum_granted j i denial = denial
-
--- what follows a good reply is no denial
-row_granted : (job : Job) (g : Inputs) (call : Call) (reply : EventReply) → next_of job g ≡ Invokes call → IsGood call reply
+-- what follows a reply that fits and is no denial is no denial
+row_granted : (job : Job) (g : Inputs) (call : Call) (reply : EventReply) → next_of job g ≡ Invokes call → IsUndeniedReply call reply
     → IsDenial (row_of_reply job reply g) → ⊥
 row_granted (Bus j) g call (replies.Bus arb_replies.Waiting) made good denial = denial
 row_granted (Bus j) g call (replies.Bus arb_replies.Granted) made good denial = denial
@@ -58,48 +54,48 @@ row_granted (Local j) g call (replies.Bus reply) made good denial =
     let fit : fits (local_call j) (replies.Bus reply) ≡ true = subst (λ c. fits c (replies.Bus reply) ≡ true) own good.fit in
     absurd cc
 
--- after a good reply a task follows its table
-good_row : (job : Job) (g : Inputs) (call : Call) (reply : EventReply) → next_of job g ≡ Invokes call → IsGood call reply
+-- after a reply that fits, the next step of a task is that of its table
+good_row : (job : Job) (g : Inputs) (call : Call) (reply : EventReply) → next_of job g ≡ Invokes call → IsUndeniedReply call reply
     → next_of job (Some reply ∷ g) ≡ row_of_reply job reply g
 good_row job g call reply made good = rw (made, good.fit) refl
 
--- an outcome after a good reply is no denial
+-- an outcome after a reply that fits and is no denial is no denial
 pub good_end : (job : Job) (g : Inputs) (call : Call) (reply : EventReply) (outcome : Outcome) → next_of job g ≡ Invokes call
-    → IsGood call reply → next_of job (Some reply ∷ g) ≡ Returns outcome → outcome ≢ outcomes.Denied
+    → IsUndeniedReply call reply → next_of job (Some reply ∷ g) ≡ Returns outcome → outcome ≢ outcomes.Denied
 good_end job g call reply outcome made good ends = λ denied.
     row_granted job g call reply made good
     (subst IsDenial (sym (ap Returns denied) ∙ sym ends ∙ good_row job g call reply made good) tt)
 
--- the reply of a transfer is `Freed`
+-- the reply that ends a transfer over the bus is `Freed`; a local command may end with any reply
 abbrev pub FreedBy : Job → EventReply → Type 0
 FreedBy (Bus j) reply = reply ≡ replies.Bus arb_replies.Freed
 FreedBy (Local j) reply = Unit {0}
 
--- if a good reply ends a transfer, the reply is `Freed`
+-- if a reply that fits and is no denial ends a transfer over the bus, the reply is `Freed`
 pub good_freed : (job : Job) (g : Inputs) (call : Call) (reply : EventReply) (outcome : Outcome) → next_of job g ≡ Invokes call
-    → IsGood call reply → next_of job (Some reply ∷ g) ≡ Returns outcome → FreedBy job reply
+    → IsUndeniedReply call reply → next_of job (Some reply ∷ g) ≡ Returns outcome → FreedBy job reply
 good_freed (Bus j) g call reply outcome made good ends =
     ends_freed j g call reply outcome made ends (good_end (Bus j) g call reply outcome made good ends)
 good_freed (Local j) g call reply outcome made good ends = tt
 
--- a slot that was freed stands as one without a reply of the arbiter
+-- after `Freed`, the state of a slot is that of a slot without a reply of the arbiter
 pub freed_stands : (job : Job) (g : Inputs) (reply : EventReply) (bus : Arbitration) (slot : ℕ) → FreedBy job reply
-    → StandsAsReplied bus slot (job_arb_reply job (Some reply ∷ g)) → StandsAsReplied bus slot None
-freed_stands (Bus j) g reply bus slot freed stands = subst (λ r. StandsAsReplied bus slot (job_arb_reply (Bus j) (Some r ∷ g))) freed stands
+    → MatchesReply bus slot (job_arb_reply job (Some reply ∷ g)) → MatchesReply bus slot None
+freed_stands (Bus j) g reply bus slot freed stands = subst (λ r. MatchesReply bus slot (job_arb_reply (Bus j) (Some r ∷ g))) freed stands
 freed_stands (Local j) g reply bus slot freed stands = stands
 
--- a local command never goes to the arbiter
+-- a local command makes no call to the arbiter
 pub local_never : (j : LocalJob) (g : Inputs) (cmd : ArbCmd) → next_of (Local j) g ≡ Invokes (OnBus cmd) → ⊥
 local_never j g cmd made = let own : OnBus cmd ≡ local_call j = local_calls j g (OnBus cmd) made in absurd cc
 
--- the arbiter's reply is its last reply to the task
+-- after a reply of the arbiter, that reply is its last reply to the task
 pub turn_reported : (job : Job) (g : Inputs) (cmd : ArbCmd) (reply : ArbReply) (bus : Arbitration) (slot : ℕ)
-    → next_of job g ≡ Invokes (OnBus cmd) → StandsAsReplied bus slot (Some reply)
-    → StandsAsReplied bus slot (job_arb_reply job (Some (replies.Bus reply) ∷ g))
+    → next_of job g ≡ Invokes (OnBus cmd) → MatchesReply bus slot (Some reply)
+    → MatchesReply bus slot (job_arb_reply job (Some (replies.Bus reply) ∷ g))
 turn_reported (Bus j) g cmd reply bus slot made stands = stands
 turn_reported (Local j) g cmd reply bus slot made stands = absurd (local_never j g cmd made)
 
--- a board's reply leaves the arbiter's last reply the same
+-- a board's reply leaves the arbiter's last reply unchanged
 pub datum_reported : (job : Job) (g : Inputs) (reply : Reply) → job_arb_reply job (Some (replies.Board reply) ∷ g) ≡ job_arb_reply job g
 datum_reported (Bus j) g reply = refl
 datum_reported (Local j) g reply = refl
@@ -109,7 +105,7 @@ pub begin_reported : (job : Job) → job_arb_reply job (None ∷ []) ≡ None
 begin_reported (Bus j) = refl
 begin_reported (Local j) = refl
 
--- a transfer is of a slot, on a level
+-- a transfer is that of a slot, which requests the bus on a level
 abbrev pub IsOwnJob : ℕ → ℕ → Job → Type 0
 IsOwnJob slot level (Bus j) = (j.slot ≡ slot) × (j.level ≡ level)
 IsOwnJob slot level (Local j) = Unit {0}

@@ -15,7 +15,7 @@ use Rattle.vme_line_task.specs.declared.attempt.AttemptTask.TheVariants as tries
 use Rattle.vme_line_task.specs.Scripts.{Awaiting, slot_at, level_at, transfer_job, request_attempt}
 use Rattle.vme_line_task.specs.Machine.{fresh_of}
 
--- a lawful read reads as many bytes as it says
+-- a lawful read reads as many bytes as it states
 pub reads_so_many : (am addr n : ℕ) (t : Transfer) → transfer_of (Read am addr n) ≡ Ok t → read_len t.request ≡ n
 reads_so_many am addr n t is = ap read_len (comes_from (Read am addr n) t is).same
 

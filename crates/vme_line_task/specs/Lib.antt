@@ -5,3 +5,4 @@ pub mod Machine
 pub mod Events
 pub mod Traces
 pub mod Tenures
+pub mod CurrentData

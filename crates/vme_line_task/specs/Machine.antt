@@ -17,7 +17,7 @@ use Rattle.vme_line_task.specs.declared.attempt.Attempts.{Attempts}
 use Rattle.vme_line_task.specs.declared.attempt.AttemptTask.{AttemptTask}
 use Rattle.vme_line_task.specs.declared.attempt.AttemptTask.TheVariants as tries
 use Rattle.vme_line_task.specs.Scripts.{Attempt, Transferring, Awaiting, Sharing, line_attempt}
-use Rattle.vme_line_task.specs.Tables.{moves_next, waits_next, shares_next, next_wants_retry, given_of}
+use Rattle.vme_line_task.specs.Tables.{transferring_next, waits_next, shares_next, next_wants_retry, given_of}
 use Rattle.vme_line_task.specs.Events.{IsCallBelow}
 
 -- the task of an attempt before its first call
@@ -45,15 +45,15 @@ attempt_advance (tries.Shared v) given = tries.Shared (shared_advance v given)
 
 -- what an attempt does next
 abbrev pub attempt_to_do : AttemptTask → NextStep LineReply
-attempt_to_do (tries.Transfer t) = moves_next (to_do t)
+attempt_to_do (tries.Transfer t) = transferring_next (to_do t)
 attempt_to_do (tries.Await w) = waits_next w.want.items (to_do w.task)
 attempt_to_do (tries.Shared v) = shares_next (shared_to_do v)
 
--- what attempts do next: what the one at work does
+-- what attempts do next: what the current one does
 abbrev pub attempts_to_do : Attempts → NextStep LineReply
 attempts_to_do a = attempt_to_do a.attempt
 
--- if the current attempt has ended with a reply that asks for another, that one has begun, as long as one is left
+-- if the current attempt has ended with a reply that asks for another, and one is left, the other has begun
 abbrev pub attempts_again : Attempts → NextStep LineReply → Attempts
 attempts_again a next =
     if next_wants_retry next && nat_lt 1 a.left
@@ -85,7 +85,7 @@ abbrev pub line_to_do : LineTask → NextStep LineReply
 line_to_do (Refused fault) = Returns (replies.Refused fault)
 line_to_do (Running a) = attempt_to_do a.attempt
 
--- the number of attempts that are left, the current one among them; none at a line that is refused
+-- the number of attempts that are left, the current one among them; 0 for a line that is refused
 abbrev pub attempts_left : LineTask → ℕ
 attempts_left (Refused fault) = 0
 attempts_left (Running a) = a.left

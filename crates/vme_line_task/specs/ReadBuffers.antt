@@ -13,8 +13,8 @@ abbrev pub request_read_len : Result Transfer CycleFault → ℕ
 request_read_len (Ok t) = read_len t.request
 request_read_len (Err fault) = 0
 
--- the number of bytes that a line reads by a request over the bus; any other line reads no more than a buffer holds
--- inline
+-- the number of bytes that a line reads by a request over the bus; 0 for any other line, whose bytes fit in an inline
+-- buffer
 abbrev pub line_read_len : Line → ℕ
 line_read_len (Bus request) = request_read_len (transfer_of request)
 line_read_len line = 0

@@ -17,8 +17,8 @@ use Rattle.vme_script.specs.Configurations.{Configuration}
 use Rattle.vme_line_task.specs.Scripts.{Attempt, Transferring, Awaiting, Sharing, line_attempt}
 
 -- a transfer or a local command: its outcome is the line's reply
-abbrev pub moves_next : NextStep Outcome → NextStep LineReply
-moves_next next = next_map Transfer next
+abbrev pub transferring_next : NextStep Outcome → NextStep LineReply
+transferring_next next = next_map Transfer next
 
 -- the reply to a read that waits for bytes: Met if it read them, Timeout if it read others, else its outcome
 abbrev pub await_reply : List ℕ → Outcome → LineReply
@@ -35,7 +35,7 @@ shares_next next = next_map Shared next
 
 -- what an attempt does next, by all that it was given
 abbrev pub attempt_next : Attempt → Inputs → NextStep LineReply
-attempt_next (Transferring job) given = moves_next (next_of job given)
+attempt_next (Transferring job) given = transferring_next (next_of job given)
 attempt_next (Awaiting job want) given = waits_next want (next_of job given)
 attempt_next (Sharing s) given = shares_next (shared_next s given)
 
@@ -65,7 +65,7 @@ abbrev pub next_attempt : Attempts → NextStep LineReply → Attempts
 next_attempt made next =
     if next_wants_retry next && nat_lt 1 made.left then record { given = None ∷ []; left = made.left - 1 } else made
 
--- the attempts after one reply more, or an absent one
+-- the attempts after one more reply, or an absent one
 abbrev pub attempt_given : Attempt → Option EventReply → Attempts → Attempts
 attempt_given attempt last made =
     next_attempt (record { given = last ∷ made.given; left = made.left }) (attempt_next attempt (last ∷ made.given))

@@ -50,7 +50,7 @@ IsLocal (Some (LocalModify at n f)) = Unit {0}
 IsLocal command = ⊥
 
 -- a reply that fits a call, and is no denial of the arbiter
-pub record IsGood (call : Call) (reply : EventReply) : Type 0 where
+pub record IsUndeniedReply (call : Call) (reply : EventReply) : Type 0 where
   pub fit : IsTrue (fits call reply)
   pub granted : reply ≢ event_replies.Bus arb_replies.Denied
 

@@ -38,9 +38,9 @@ pub record ScriptState : Type 0 where
   pub replies : List EventReply
 
 -- the transitions of the next line so far, with the replies to its calls; none if no line is left
-abbrev pub AtWork : Configuration → ℕ → List Line → List Transition → List EventReply → Type 0
-AtWork config board [] moves replies = (moves ≡ []) × (replies ≡ [])
-AtWork config board (line ∷ left) moves replies = Continues config board line [] moves replies
+abbrev pub IsNextLinePrefix : Configuration → ℕ → List Line → List Transition → List EventReply → Type 0
+IsNextLinePrefix config board [] moves replies = (moves ≡ []) × (replies ≡ [])
+IsNextLinePrefix config board (line ∷ left) moves replies = Continues config board line [] moves replies
 
 -- the transitions of a processor up to a script state: the first of them are the trace of the lines that have ended,
 -- and the rest are those of the next line
@@ -52,4 +52,4 @@ pub record IsTracePrefix (config : Configuration) (board : ℕ) (moves : List Tr
   pub rest : List Transition
   pub whole : moves ≡ done ++ rest
   pub over : IsTrace config board finished done script_state.ended
-  pub work : AtWork config board left rest script_state.replies
+  pub work : IsNextLinePrefix config board left rest script_state.replies

@@ -5,17 +5,19 @@ ghost use Rattle.vme_core.specs.Machines.{process_count};
 ghost use Rattle.vme_core.specs.NextSteps.{NotStarted, call_in, result_in};
 ghost use Rattle.vme_core.specs.Advances.{CanMake, AdvancesOn};
 ghost use Rattle.vme_shared.specs.Machine.{shared_to_do};
+ghost use Rattle.vme_line_task.specs.CurrentData.{attempt_datum, attempt_command};
 ghost use Rattle.vme_line_task.specs.Tables.{next_wants_retry, shares_next};
 ghost use Rattle.vme_line_task.specs.Events.{reply_in};
-ghost use Rattle.vme_line_task.specs.Machine.{attempt_anew, attempt_advance, attempt_to_do, attempts_advance, attempts_to_do};
+ghost use Rattle.vme_line_task.specs.Machine.{attempt_anew, attempt_advance, attempt_to_do, attempts_again, attempts_advance, attempts_to_do};
 
 use crate::reply::LineReplyRef;
 use crate::wait::AwaitTask;
 use vme_core::{Core, EventRef, EventReply};
-use vme_master::Task;
+use vme_master::{CurrentDatum, Task};
+use vme_memory::BoardCmd;
 use vme_shared::{LineReply, SharedOutcome, SharedTask};
 
-/// Attempts at a line, one of which is at work.
+/// Attempts at a line, one of which is the current one.
 #[derive(Debug, Drop)]
 pub struct Attempts<'a> {
     pub(crate) attempt: AttemptTask<'a>,
@@ -43,6 +45,16 @@ impl Attempts<'_> {
         ensures begun { attempts_to_do self.new ≢ NotStarted }
     {
         self.attempt.advance(given);
+        self.retry();
+    }
+
+    /// Begins another attempt, if the current one has ended with a reply that asks for another and
+    /// one is left.
+    #[inline(always)]
+    fn retry(&mut self)
+        ensures task { self.new ≡ attempts_again self.old (attempts_to_do self.old) }
+        ensures begun { attempts_to_do self.old ≢ NotStarted → attempts_to_do self.new ≢ NotStarted }
+    {
         if self.left > 1 && self.attempt.wants_retry() {
             self.left -= 1;
             self.attempt.restart();
@@ -62,23 +74,23 @@ impl Attempts<'_> {
         if let AttemptTask::Transfer(task) = &mut self.attempt {
             task.advance_on(core, who);
         } else {
-            self.advance_on_by_ref(core, who);
+            self.advance_retrying(core, who);
         }
     }
 
-    /// Performs the current attempt's next event, which `event_ref` returns, on `core` for
-    /// processor `who` and gives the attempts the reply. Another attempt may begin.
+    /// Performs the current attempt's next event on `core` for processor `who` and gives the
+    /// attempt the reply. Another attempt may begin.
     #[inline(never)]
-    fn advance_on_by_ref(&mut self, core: &mut Core, who: usize)
+    fn advance_retrying(&mut self, core: &mut Core, who: usize)
         requires who { who < process_count core.old }
         requires can { CanMake core.old (call_in (attempts_to_do self.old)) }
         ensures { AdvancesOn attempts_to_do attempts_advance who core.old core.new self.old self.new }
     {
-        let Some(event_ref) = &self.attempt.event_ref() else {
+        if self.attempt.is_finished() {
             return;
-        };
-        let reply = core.apply_ref(who, event_ref);
-        self.advance(Some(&reply));
+        }
+        self.attempt.advance_on(core, who);
+        self.retry();
     }
 }
 
@@ -95,6 +107,20 @@ impl AttemptTask<'_> {
         }
     }
 
+    /// Performs the next event on `core` for processor `who` and gives the attempt the reply.
+    #[inline(always)]
+    fn advance_on(&mut self, core: &mut Core, who: usize)
+        requires who { who < process_count core.old }
+        requires can { CanMake core.old (call_in (attempt_to_do self.old)) }
+        ensures { AdvancesOn attempt_to_do attempt_advance who core.old core.new self.old self.new }
+    {
+        match self {
+            AttemptTask::Transfer(task) => task.advance_on(core, who),
+            AttemptTask::Await(wait) => wait.advance_on(core, who),
+            AttemptTask::Shared(task) => task.advance_on(core, who),
+        }
+    }
+
     /// Returns the event that comes next as a reference, if there is one, without the signals of a
     /// cycle.
     #[inline(always)]
@@ -105,6 +131,27 @@ impl AttemptTask<'_> {
             AttemptTask::Transfer(task) => task.event_ref(),
             AttemptTask::Await(wait) => wait.event_ref(),
             AttemptTask::Shared(task) => task.event_ref(),
+        }
+    }
+
+    /// Returns the datum that the attempt is at, if it is at a transfer over the bus.
+    pub(crate) fn current_datum(&self) -> Option<CurrentDatum<'_>>
+        ensures { result ≡ attempt_datum self.now }
+    {
+        match self {
+            AttemptTask::Transfer(task) => task.current_datum(),
+            AttemptTask::Await(wait) => wait.current_datum(),
+            AttemptTask::Shared(task) => task.current_datum(),
+        }
+    }
+
+    /// Returns a copy of the command to the local port, if the attempt is one.
+    pub(crate) fn local_command(&self) -> Option<BoardCmd>
+        ensures { result ≡ attempt_command self.now }
+    {
+        match self {
+            AttemptTask::Transfer(task) => task.local_command(),
+            AttemptTask::Await(_) | AttemptTask::Shared(_) => None,
         }
     }
 

@@ -8,7 +8,7 @@ ghost use Rattle.vme_arbiter.specs.declared.command.ArbReply.{ArbReply};
 ghost use Rattle.vme_arbiter.specs.declared.command.ArbReply.TheVariants.{Granted};
 ghost use Rattle.vme_arbiter.specs.Requests.{is_level};
 ghost use Rattle.vme_arbiter.specs.Arbitration.{Arbitration};
-ghost use Rattle.vme_arbiter.specs.Masters.{may_give, StandsAsReplied};
+ghost use Rattle.vme_arbiter.specs.Masters.{may_give, MatchesReply};
 ghost use Rattle.vme_core.specs.declared.event.EventReply.{EventReply};
 ghost use Rattle.vme_core.specs.declared.event.EventReply.TheVariants as event_replies;
 ghost use Rattle.vme_core.specs.Calls.{Call, OnBoard, OnBus, call_of};
@@ -24,7 +24,7 @@ ghost use Rattle.vme_line_task.specs.Tables.{next_given, line_next};
 ghost use Rattle.vme_line_task.specs.Machine.{line_given, line_after, line_to_do};
 ghost use Rattle.vme_line_task.specs.Events.{IsCallBelow};
 ghost use Rattle.vme_line_task.specs.Traces.{ScriptState, IsTracePrefix};
-ghost use Rattle.vme_line_task.specs.Tenures.{line_arb_reply, IsLocal, IsGood, IsGranted};
+ghost use Rattle.vme_line_task.specs.Tenures.{line_arb_reply, IsLocal, IsUndeniedReply, IsGranted};
 
 /// States that a line follows the table: after calls with any replies, its next step is the one of
 /// the table. A line's reply is final.
@@ -77,7 +77,7 @@ pub fn lines_keep_their_tenure()
         line_arb_reply config board line [] ≡ None }
     ensures first { (config : Configuration) (board : ℕ) (line : Line) (answer : LineReply) →
         line_next config board line [] ≡ Returns answer → IsGranted answer }
-    ensures turns { (config : Configuration) (board : ℕ) (line : Line) (replies : List EventReply)
+    ensures command_allowed { (config : Configuration) (board : ℕ) (line : Line) (replies : List EventReply)
         (cmd : ArbCmd) → IsTrue (is_level (level_at config board)) →
         line_next config board line replies ≡ Invokes (OnBus cmd) →
         IsTrue (may_give (slot_at config board) (line_arb_reply config board line replies) cmd) }
@@ -85,24 +85,24 @@ pub fn lines_keep_their_tenure()
         (b : ℕ) (command : Option Command) → IsOwnLine line →
         line_next config board line replies ≡ Invokes (OnBoard b command) →
         IsLocal command ⊎ (line_arb_reply config board line replies ≡ Some Granted) }
-    ensures turn { (config : Configuration) (board : ℕ) (line : Line) (replies : List EventReply)
+    ensures slot_state { (config : Configuration) (board : ℕ) (line : Line) (replies : List EventReply)
         (cmd : ArbCmd) (reply : ArbReply) (bus : Arbitration) (slot : ℕ) →
         line_next config board line replies ≡ Invokes (OnBus cmd) →
-        IsGood (OnBus cmd) (event_replies.Bus reply) → StandsAsReplied bus slot (Some reply) →
-        StandsAsReplied bus slot (line_arb_reply config board line (event_replies.Bus reply ∷ replies)) }
+        IsUndeniedReply (OnBus cmd) (event_replies.Bus reply) → MatchesReply bus slot (Some reply) →
+        MatchesReply bus slot (line_arb_reply config board line (event_replies.Bus reply ∷ replies)) }
     ensures datum { (config : Configuration) (board : ℕ) (line : Line) (replies : List EventReply)
         (call : Call) (reply : Reply) → line_next config board line replies ≡ Invokes call →
-        IsGood call (event_replies.Board reply) →
+        IsUndeniedReply call (event_replies.Board reply) →
         line_arb_reply config board line (event_replies.Board reply ∷ replies)
         ≡ line_arb_reply config board line replies }
     ensures granted { (config : Configuration) (board : ℕ) (line : Line) (replies : List EventReply)
         (call : Call) (reply : EventReply) (answer : LineReply) →
-        line_next config board line replies ≡ Invokes call → IsGood call reply →
+        line_next config board line replies ≡ Invokes call → IsUndeniedReply call reply →
         line_next config board line (reply ∷ replies) ≡ Returns answer → IsGranted answer }
     ensures end { (config : Configuration) (board : ℕ) (line : Line) (replies : List EventReply)
         (call : Call) (reply : EventReply) (answer : LineReply) (bus : Arbitration) (slot : ℕ) →
-        line_next config board line replies ≡ Invokes call → IsGood call reply →
+        line_next config board line replies ≡ Invokes call → IsUndeniedReply call reply →
         line_next config board line (reply ∷ replies) ≡ Returns answer →
-        StandsAsReplied bus slot (line_arb_reply config board line (reply ∷ replies)) →
-        StandsAsReplied bus slot None }
+        MatchesReply bus slot (line_arb_reply config board line (reply ∷ replies)) →
+        MatchesReply bus slot None }
 {}

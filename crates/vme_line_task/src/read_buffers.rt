@@ -17,7 +17,7 @@ use vme_script::Script;
 #[derive(Drop)]
 pub struct ReadBuffers {
     /// Whether the buffer of each line allocates.
-    take_memory: IntoIter<bool, Global>,
+    are_long: IntoIter<bool, Global>,
     /// The buffers that allocate.
     long: IntoIter<BlockBuffer, Global>,
 }
@@ -30,10 +30,10 @@ impl Model for ReadBuffers {
 
     ghost Value = { List BufferView };
 
-    ghost view = { λ r. buffers_kept (into_iter_items r.take_memory) (into_iter_items r.long) };
+    ghost view = { λ r. buffers_kept (into_iter_items r.are_long) (into_iter_items r.long) };
 
     ghost invariant = { λ r.
-        (into_iter_len r.take_memory ≡ length (into_iter_items r.take_memory))
+        (into_iter_len r.are_long ≡ length (into_iter_items r.are_long))
         × (into_iter_len r.long ≡ length (into_iter_items r.long)) };
 }
 
@@ -47,18 +47,18 @@ impl ReadBuffers {
     pub fn new(alloc: Global, script: &Script) -> Result<ReadBuffers, AllocError>
         ensures { IfOk result (λ buffers. buffers ≡ buffers_of script.now) }
     {
-        let mut take_memory = Vec::with_capacity(alloc, script.len())?;
+        let mut are_long = Vec::with_capacity(alloc, script.len())?;
         let mut long = Vec::new(alloc);
         for line in 0..script.len() {
             let count = long_buffer(script.line(line));
-            let takes_memory = INLINE_LEN < count;
-            if takes_memory {
+            let is_long = INLINE_LEN < count;
+            if is_long {
                 long.push(BlockBuffer::with_capacity(alloc, count)?)?;
             }
-            take_memory.push_reserved(takes_memory);
+            are_long.push_reserved(is_long);
         }
         Ok(ReadBuffers {
-            take_memory: take_memory.into_iter(),
+            are_long: are_long.into_iter(),
             long: long.into_iter(),
         })
     }
@@ -68,7 +68,7 @@ impl ReadBuffers {
         requires { 0 < length self.old }
         ensures { self.old ≡ result ∷ self.new }
     {
-        if self.take_memory.next().unwrap() {
+        if self.are_long.next().unwrap() {
             self.long.next().unwrap()
         } else {
             BlockBuffer::new()

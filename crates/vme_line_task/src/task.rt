@@ -9,6 +9,7 @@ ghost use Rattle.vme_script.specs.Configurations.{Configuration};
 ghost use Rattle.vme_master.specs.Tables.{Inputs};
 ghost use Rattle.vme_line_task.specs.Scripts.{HasItsMailbox, lines_at};
 ghost use Rattle.vme_line_task.specs.ReadBuffers.{line_read_len};
+ghost use Rattle.vme_line_task.specs.CurrentData.{line_datum, line_command};
 ghost use Rattle.vme_line_task.specs.Tables.{next_given};
 ghost use Rattle.vme_line_task.specs.Machine.{line_started, line_advance, line_to_do, line_given, attempts_left, IsLineBelow};
 ghost use Rattle.vme_line_task.specs.declared.attempt.AttemptTask.TheVariants as tries;
@@ -22,11 +23,12 @@ use crate::todo::LineTodo;
 use vme_core::{Core, EventRef, EventReply};
 use vme_cycle::{BlockBuffer, CycleFault};
 use vme_grammar::Line;
-use vme_master::Task;
+use vme_master::{CurrentDatum, Task};
+use vme_memory::BoardCmd;
 use vme_script::Config;
 use vme_shared::LineReply;
 
-/// A line of a script at work.
+/// A line of a script that has been started.
 #[derive(Debug, Drop)]
 pub enum LineTask<'a> {
     /// The line's request is refused.
@@ -114,6 +116,26 @@ impl<'a> LineTask<'a> {
         }
     }
 
+    /// Returns the datum that the line is at, if it is at a transfer over the bus.
+    pub fn current_datum(&self) -> Option<CurrentDatum<'_>>
+        ensures { result ≡ line_datum self.now }
+    {
+        match self {
+            LineTask::Refused(_) => None,
+            LineTask::Running(attempts) => attempts.attempt.current_datum(),
+        }
+    }
+
+    /// Returns a copy of the line's command to the local port, if it is one.
+    pub fn local_command(&self) -> Option<BoardCmd>
+        ensures { result ≡ line_command self.now }
+    {
+        match self {
+            LineTask::Refused(_) => None,
+            LineTask::Running(attempts) => attempts.attempt.local_command(),
+        }
+    }
+
     /// Returns whether the line has ended. It reads less memory than `reply`.
     #[inline(always)]
     pub fn is_finished(&self) -> bool
@@ -180,8 +202,8 @@ impl<'a> LineTask<'a> {
         }
     }
 
-    /// Returns any line of a board's processor before its first call. Out of line, so that a task
-    /// that is attempted once is made in its place.
+    /// Returns any line of a board's processor before its first call. It is not inlined, so that
+    /// `of` constructs a task that is attempted once in its final place.
     #[inline(never)]
     #[tactic(auto, unfolding(crate::specs::Machine::line_started))]
     fn of_any(config: &'a Config, board: usize, line: &'a Line, buffer: BlockBuffer) -> LineTask<'a>

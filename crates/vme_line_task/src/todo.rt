@@ -16,7 +16,7 @@ pub enum LineTodo {
 }
 
 impl LineTodo {
-    /// The next step of a line that has begun, by its next event, if there is one.
+    /// Returns the next step of a line that has begun: its next event, or `Ended` if there is none.
     pub(crate) fn of(event_ref: Option<EventRef<'_>>) -> LineTodo
         ensures { call_of_todo result ≡ option_map call_asked event_ref.entry }
     {

@@ -1,16 +1,19 @@
 //! Reads that wait for bytes.
-ghost use Rattle.std.specs.Prelude.{◌≡◌, ◌≢◌, option_map, option_copied, is_some};
+ghost use Rattle.std.specs.Prelude.{◌≡◌, ◌≢◌, ◌<◌, option_map, option_copied, is_some};
 ghost use Rattle.std.specs.Str.{bytes_eq};
+ghost use Rattle.vme_core.specs.Advances.{CanMake, AdvancesOn};
 ghost use Rattle.vme_core.specs.EventRefs.{call_asked};
+ghost use Rattle.vme_core.specs.Machines.{process_count};
 ghost use Rattle.vme_core.specs.NextSteps.{NotStarted, call_in, result_in};
+ghost use Rattle.vme_master.specs.CurrentData.{task_datum};
 ghost use Rattle.vme_master.specs.Machine.{advance, fresh_task, to_do};
 ghost use Rattle.vme_line_task.specs.Tables.{waits_next, next_wants_retry};
 ghost use Rattle.vme_line_task.specs.Events.{reply_in};
 
 use crate::reply::LineReplyRef;
-use vme_core::{EventRef, EventReply};
+use vme_core::{Core, EventRef, EventReply};
 use vme_lanes::Datum;
-use vme_master::{Outcome, OutcomeRef, Task};
+use vme_master::{CurrentDatum, Outcome, OutcomeRef, Task};
 use vme_shared::LineReply;
 
 /// A read that waits for bytes, which are so few that they lie in the task itself.
@@ -37,12 +40,30 @@ impl<'a> AwaitTask<'a> {
         self.task.advance(given);
     }
 
+    /// Performs the next event on `core` for processor `who` and gives the read the reply.
+    #[inline(always)]
+    pub(crate) fn advance_on(&mut self, core: &mut Core, who: usize)
+        requires who { who < process_count core.old }
+        requires can { CanMake core.old (call_in (to_do self.old.task)) }
+        ensures task { AdvancesOn to_do advance who core.old core.new self.old.task self.new.task }
+        ensures want { self.new.want ≡ self.old.want }
+    {
+        self.task.advance_on(core, who);
+    }
+
     /// Returns the event that comes next as a reference, if there is one, without the signals of a
     /// cycle.
     pub(crate) fn event_ref(&self) -> Option<EventRef<'_>>
         ensures { option_map call_asked result ≡ call_in (waits_next self.now.want.items (to_do self.now.task)) }
     {
         self.task.event_ref()
+    }
+
+    /// Returns the datum that the read is at.
+    pub(crate) fn current_datum(&self) -> Option<CurrentDatum<'_>>
+        ensures { result ≡ task_datum self.now.task }
+    {
+        self.task.current_datum()
     }
 
     /// Returns whether the read has ended.

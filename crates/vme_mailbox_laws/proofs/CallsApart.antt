@@ -11,7 +11,7 @@ use Rattle.vme_grammar.specs.declared.line.Line.{Line}
 use Rattle.vme_script.specs.Configurations.{Configuration}
 use Rattle.vme_line_task.specs.Scripts.{Attempt, Transferring, Awaiting, Sharing, line_attempt}
 use Rattle.vme_line_task.specs.Tables.{attempts_of, lawful_next, next_given, given_of, line_next}
-use Rattle.vme_line_task.proofs.lemmas.Below.{moves_makes, waits_makes, shares_makes}
+use Rattle.vme_line_task.proofs.lemmas.Below.{transferring_makes, waits_makes, shares_makes}
 
 -- a job makes a call, for some replies
 abbrev pub JobCalls : Job → Call → Type 0
@@ -32,7 +32,7 @@ Calls (Err fault) call = ⊥
 lawful_calls : (tries : ℕ) (attempt : Result Attempt CycleFault) (given : Inputs) (call : Call)
     → lawful_next tries attempt given ≡ Invokes call → Calls attempt call
 lawful_calls tries (Ok (Transferring job)) given call made =
-    let g = (attempts_of (Transferring job) tries given).given in (g, moves_makes (next_of job g) call made)
+    let g = (attempts_of (Transferring job) tries given).given in (g, transferring_makes (next_of job g) call made)
 lawful_calls tries (Ok (Awaiting job want)) given call made =
     let g = (attempts_of (Awaiting job want) tries given).given in (g, waits_makes want (next_of job g) call made)
 lawful_calls tries (Ok (Sharing s)) given call made =

@@ -39,34 +39,34 @@ use Rattle.vme_mailbox_laws.proofs.Single.{IsGoodTo, Waits, Answered, reply_byte
 use Rattle.vme_mailbox_laws.proofs.Stages.{IsStage, is_stage, stage_command, stage_expected}
 use Rattle.vme_mailbox_laws.proofs.Rows.{Before, Words, Leads, IsFine, IsFineEnd, goes}
 
--- a stage in this phase: its datum has no reply yet, or has one whose outcome leads to the next step
-abbrev pub AtWork : BoardMailbox → SharedRequest → Stage → BusJob → Inputs → Phase → List ℕ → List ℕ → Type 0
-AtWork m request stage bus g phase put taken =
+-- the current stage in this phase: its datum has no reply yet, or has one whose outcome leads to the next step
+abbrev pub IsCurrentStage : BoardMailbox → SharedRequest → Stage → BusJob → Inputs → Phase → List ℕ → List ℕ → Type 0
+IsCurrentStage m request stage bus g phase put taken =
     (Waits bus g × (Before m request stage phase × Words request stage put taken))
     ⊎ ((reply : Reply) × Answered bus reply g
     × Leads m request (step_after request stage (expected_outcome (stage_expected stage) (reply_bytes reply))) phase put taken)
 
--- a stage at work, with its phase and words
+-- the current stage of a put or a take, with its phase and its words
 pub record IsAt (m : BoardMailbox) (board : ℕ) (request : SharedRequest) (stage : Stage) (job : Job) (g : Inputs) (at : Option Phase)
     (put taken : List ℕ) : Type 0 where
   pub phase : Phase
   pub is : at ≡ Some phase
   pub own : IsStage m board stage job
-  pub work : AtWork m request stage own.bus g phase put taken
+  pub work : IsCurrentStage m request stage own.bus g phase put taken
 
--- an end: the mailbox is left, and the words are those of the outcome
+-- the end of a put or a take: the phase is idle, and the words are those of the outcome
 pub record IsOver (request : SharedRequest) (end : SharedOutcome) (at : Option Phase) (put taken : List ℕ) : Type 0 where
   pub is : at ≡ Some Idle
   pub put_is : put ≡ put_by_outcome end request
   pub taken_is : taken ≡ taken_by_outcome end
   pub fine : IsFineEnd end
 
--- the progress of a put or a take matches its phase and its words
+-- the progress of a put or a take matches a phase and words
 abbrev pub Stands : BoardMailbox → ℕ → SharedRequest → Progress → Option Phase → List ℕ → List ℕ → Type 0
 Stands m board request (At stage job g) at put taken = IsAt m board request stage job g at put taken
 Stands m board request (Over end) at put taken = IsOver request end at put taken
 
--- a step without a command to the board keeps the phase
+-- the progress still matches if the phase is the same, and no word is put or taken
 unmoved : (m : BoardMailbox) (board : ℕ) (request : SharedRequest) (progress : Progress) (at after : Option Phase) (put taken : List ℕ) → after ≡ at
     → Stands m board request progress at put taken
     → Stands m board request progress after (put ++ put_by at after) (taken ++ taken_by at after)
@@ -119,7 +119,7 @@ module _ (s : SharedJob) (board : ℕ) (m : BoardMailbox) (uses : UsesMailbox s 
           let first : first_stage s.request ≡ Locks = ap first_stage same in
           rw first (begun Locks [] (stage_job s Locks) (Some Idle) Idle [] [] refl refl refl (refl, refl) (λ bus. waits_fresh bus))
 
-  -- the progress after one more reply matches its phase and its words
+  -- the progress after one more reply matches the phase and the words after it
   abbrev pub Moved : Progress → Option EventReply → Option Phase → List ℕ → List ℕ → Type 0
   Moved progress last at put taken =
       Stands m board s.request (progress_given s last progress) (phase_given m board (next_at progress) last at)
@@ -132,7 +132,7 @@ module _ (s : SharedJob) (board : ℕ) (m : BoardMailbox) (uses : UsesMailbox s 
   moved_to progress to last at next put taken goes_to phase_is stands =
       rw goes_to (subst (λ p. Stands m board s.request to p (put ++ put_by at p) (taken ++ taken_by at p)) (sym phase_is) stands)
 
-  -- a stage whose datum has no reply yet stays at work
+  -- a stage whose datum has no reply yet stays the current one
   waits_stays : (stage : Stage) (job : Job) (bus : BusJob) (g : Inputs) → job ≡ Bus bus → Waits bus g
       → progress_by s stage job g (next_of job g) ≡ At stage job g
   waits_stays stage job bus g made waits =
@@ -144,7 +144,7 @@ module _ (s : SharedJob) (board : ℕ) (m : BoardMailbox) (uses : UsesMailbox s 
         | inr (inr (inr moves)) ↦ ap (progress_by s stage job g) moves
       ]
 
-  -- a stage whose datum goes to no board stays at work
+  -- the progress still matches after a reply that keeps the phase, while the datum has no reply
   waits_on : (stage : Stage) (job : Job) (g : Inputs) (at : Option Phase) (put taken : List ℕ) (last : Option EventReply)
       (stands : IsAt m board s.request stage job g at put taken) → Waits stands.own.bus (last ∷ g)
       → Before m s.request stage stands.phase × Words s.request stage put taken
@@ -154,7 +154,7 @@ module _ (s : SharedJob) (board : ℕ) (m : BoardMailbox) (uses : UsesMailbox s 
       (unmoved m board s.request (At stage job (last ∷ g)) at at put taken refl
       (record { phase = stands.phase; is = stands.is; own = stands.own; work = inl (waits, before) }))
 
-  -- the progress still matches after a reply of the arbiter to a request or a look
+  -- the progress still matches after a reply of the arbiter to a request or a poll
   turned_on : (stage : Stage) (job : Job) (g : Inputs) (at : Option Phase) (put taken : List ℕ) (last : Option EventReply) (call : Call)
       (stands : IsAt m board s.request stage job g at put taken) → Waits stands.own.bus g
       → Before m s.request stage stands.phase × Words s.request stage put taken
@@ -264,7 +264,7 @@ module _ (s : SharedJob) (board : ℕ) (m : BoardMailbox) (uses : UsesMailbox s 
         | inr answered ↦ freed stage job g at put taken last answered.0 stands answered.1 answered.2 good
       ]
 
-  -- a put count that was read is a number of four bytes
+  -- in the phase before a stage, a put count that was read is a number of four bytes
   before_count : (stage : Stage) (phase : Phase) → Before m s.request stage phase → IsCount (Some phase)
   before_count stages.Locks phase before = subst (λ p. IsCount (Some p)) (sym before) tt
   before_count stages.ReadsPutCount phase before = subst (λ p. IsCount (Some p)) (sym before) tt
@@ -295,7 +295,7 @@ module _ (s : SharedJob) (board : ℕ) (m : BoardMailbox) (uses : UsesMailbox s 
         | inr answered ↦ leads_count (step_after s.request stage (expected_outcome (stage_expected stage) (reply_bytes answered.0))) stands.phase put taken answered.2
       ])
 
-  -- a command with a good reply follows the protocol
+  -- the command of a stage, with a good reply, follows the protocol
   datum_goes : (stage : Stage) (job : Job) (g : Inputs) (at : Option Phase) (put taken : List ℕ) (reply : Reply)
       (stands : IsAt m board s.request stage job g at put taken) → Waits stands.own.bus g
       → Before m s.request stage stands.phase × Words s.request stage put taken

@@ -164,9 +164,9 @@ taken s given am addr board command is makes =
     record { code = own.code; row = own.row; offset = own.offset; selected = own.selected; own = own.own }
 
 -- each command of an unlock is the write that clears the lock
-pub given_back : (s : SharedJob) (given : Inputs) (am addr board : ℕ) (command : Option Command) → s.request ≡ events.Unlock am addr
+pub lock_cleared : (s : SharedJob) (given : Inputs) (am addr board : ℕ) (command : Option Command) → s.request ≡ events.Unlock am addr
     → shared_next s given ≡ Invokes (OnBoard board command) → GoesTo s.map am addr board (λ offset. Write offset (0 ∷ [])) command
-given_back s given am addr board command is makes =
+lock_cleared s given am addr board command is makes =
     let out = sent s given board command makes in
     let own : Sent s (clear_lock am addr) board command = subst (λ r. Sent s (stage_request r out.0) board command) is out.1 in
     record { code = own.code; row = own.row; offset = own.offset; selected = own.selected; own = own.own }

@@ -20,7 +20,7 @@ some_phase : (m : BoardMailbox) (board : ℕ) (request : SharedRequest) (progres
 some_phase m board request (At stage job g) at put taken stands = rw stands.is refl
 some_phase m board request (Over end) at put taken stands = rw stands.is refl
 
--- a stage at work has not ended
+-- the current stage of a put or a take has not returned an outcome
 goes_on_yet : (m : BoardMailbox) (board : ℕ) (request : SharedRequest) (stage : Stage) (job : Job) (g : Inputs) (at : Option Phase) (put taken : List ℕ)
     (outcome : SharedOutcome) → IsAt m board request stage job g at put taken → task_shown (next_of job g) ≡ Returns outcome → ⊥
 goes_on_yet m board request stage job g at put taken outcome stands is =
@@ -36,7 +36,7 @@ goes_on_yet m board request stage job g at put taken outcome stands is =
       | inr answered ↦ let here = subst (λ n. task_shown n ≡ Returns outcome) (to_job ∙ answered.1.next) is in absurd cc
     ]
 
--- at the end the mailbox is left, and the words are those of the outcome
+-- at the end the phase is idle, and the words are those of the outcome
 pub ends_in : (m : BoardMailbox) (board : ℕ) (request : SharedRequest) (progress : Progress) (at : Option Phase) (put taken : List ℕ)
     (outcome : SharedOutcome) → Stands m board request progress at put taken → next_at progress ≡ Returns outcome
     → IsOver request outcome at put taken

@@ -30,7 +30,7 @@ count_is m bytes put taken (Written p x) kept stands = tt
 count_is m bytes put taken (Fetched t x) kept stands = tt
 count_is m bytes put taken Counted kept stands = tt
 
--- each put count that a master has read is a number of four bytes
+-- each put count that a caller has read is a number of four bytes
 counts_are : (m : BoardMailbox) (bytes put taken : List ℕ) (phases : ℕ → Option Phase) → Holds m bytes put taken phases → (who : ℕ) → IsCount (phases who)
 counts_are m bytes put taken phases holds who =
     elim (cases_eq holds.owner who) [
@@ -38,7 +38,7 @@ counts_are m bytes put taken phases holds who =
       | inr apart ↦ subst IsCount (sym (holds.others who apart)) tt
     ]
 
--- each master is in some phase
+-- each caller is in some phase
 some_phase : (m : BoardMailbox) (bytes put taken : List ℕ) (phases : ℕ → Option Phase) → Holds m bytes put taken phases → (who : ℕ)
     → is_some (phases who) ≡ true
 some_phase m bytes put taken phases holds who =
@@ -47,7 +47,7 @@ some_phase m bytes put taken phases holds who =
       | inr apart ↦ rw (holds.others who apart) refl
     ]
 
--- a board keeps its class and its size
+-- a command keeps the class of a board
 same_class : (board : Board) (command : Command) → (step board command).1.class ≡ board.class
 same_class board command = elim (cases_Bool (can_answer board command)) [ inl can ↦ rw can (by_effect command) | inr refused ↦ rw refused refl ]
   where
@@ -99,7 +99,7 @@ pub record Led (m : BoardMailbox) (at : Option Phase) (es : List (Entry BoardCmd
   pub goes : is_some (phase_after m at es) ≡ true
   pub done : wanted (phase_after m at es) (words_along put_by m at es) (words_along taken_by m at es)
 
--- the first entry of a history follows the protocol of its caller
+-- the first entry of a history follows the protocol, and the later entries of its caller reach the goal that remains
 own_first : (m : BoardMailbox) (phases : ℕ → Option Phase) (e : Entry BoardCmd Reply) (h : List (Entry BoardCmd Reply)) (wanted : ℕ → Wanted)
     → IsAnswered m e → Through m (phases e.who) (own e.who (e ∷ h)) (wanted e.who)
     → (is_some (after_entry m (phases e.who) e) ≡ true)
@@ -110,12 +110,12 @@ own_first m phases e h wanted answered through =
     let mine : own e.who (e ∷ h) ≡ e ∷ own e.who h = let same : (e.who == e.who) ≡ true = eq-eqb e.who e.who refl in rw same refl in
     subst (λ es. Through m (phases e.who) es (wanted e.who)) mine through answered
 
--- the goal of each caller after an entry, which changes only the goal of its own caller
+-- the first goal for the caller of an entry, the second for another caller
 abbrev choose : Bool → Wanted → Wanted → Wanted
 choose true own other = own
 choose false own other = other
 
--- the goals of all callers after an entry
+-- the goals of all callers after an entry: only the goal of its own caller changes
 abbrev wanted_after : BoardMailbox → (ℕ → Option Phase) → Entry BoardCmd Reply → (ℕ → Wanted) → ℕ → Wanted
 wanted_after m phases e wanted who =
     choose (e.who == who) (behind (wanted who) (put_by (phases who) (after_entry m (phases who) e)) (taken_by (phases who) (after_entry m (phases who) e)))

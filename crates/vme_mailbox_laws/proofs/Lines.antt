@@ -35,7 +35,7 @@ use Rattle.vme_mailbox_laws.specs.Along.{UsesMailbox, IsGood, IsCount, phase_giv
 use Rattle.vme_mailbox_laws.proofs.Courses.{Stands, IsOver, opening, moves}
 use Rattle.vme_mailbox_laws.proofs.Ends.{ends_in}
 use Rattle.vme_mailbox_laws.specs.Names.{LeavesAlone}
-use Rattle.vme_mailbox_laws.specs.Runs.{AllTurned}
+use Rattle.vme_mailbox_laws.specs.Runs.{AllFittingReplies}
 use Rattle.vme_mailbox_laws.proofs.Through.{Wanted, behind, Through}
 use Rattle.vme_mailbox_laws.proofs.Tasks.{IsIn, move_on}
 
@@ -47,7 +47,7 @@ part_cons x m run = by_entry (board_entry x m.who m.event m.reply) refl
     by_entry None is = rw is refl
     by_entry (Some e) is = rw is refl
 
--- an end of the line is the end of its attempt
+-- the reply of a line is the outcome of its last attempt
 pub shares_ends : (n : NextStep SharedOutcome) (answer : LineReply) → shares_next n ≡ Returns answer → (outcome : SharedOutcome) × (n ≡ Returns outcome) × (answer ≡ Shared outcome)
 shares_ends NotStarted answer is = absurd cc
 shares_ends (Invokes call) answer is = absurd cc
@@ -73,7 +73,7 @@ module _ (s : SharedJob) (board : ℕ) (m : BoardMailbox) (uses : UsesMailbox s 
       subst (λ p. Stands m board s.request (progress_of s (None ∷ [])) p (put_by (Some Idle) p) (taken_by (Some Idle) p)) same
       (moves s board m uses (progress_of s []) None (Some Idle) [] [] (opening s board m uses) good (subst IsCount (sym same) tt))
 
-  -- after an attempt that is followed by another, the next one begins
+  -- with the next attempt in the place of one that has ended without success, the progress still matches
   settles : (made : Attempts) (at : Option Phase) (put taken : List ℕ) → IsIn s board m uses made.given at put taken
       → IsIn s board m uses (next_attempt made (attempt_next (Sharing s) made.given)).given at put taken
   settles made at put taken stands =
@@ -88,7 +88,7 @@ module _ (s : SharedJob) (board : ℕ) (m : BoardMailbox) (uses : UsesMailbox s 
       ]
 
   module _ (config : Configuration) (who : ℕ) (line : Line) (is : line_attempt config who line ≡ Ok (Sharing s)) where
-    -- the state of the current attempt of the line, by the replies that the line was given
+    -- the progress of the line's current attempt, after the replies to the line's calls, matches a phase and words
     abbrev pub InLine : List EventReply → Option Phase → List ℕ → List ℕ → Type 0
     InLine replies at put taken = IsIn s board m uses (attempts_of (Sharing s) config.tries (given_of replies)).given at put taken
 
@@ -104,23 +104,23 @@ module _ (s : SharedJob) (board : ℕ) (m : BoardMailbox) (uses : UsesMailbox s 
 
     -- all transitions of the line follow the protocol
     pub line_moves : (before : List EventReply) (run : List Transition) (replies : List EventReply) (at : Option Phase) (put taken : List ℕ)
-        (rest : List (Entry BoardCmd Reply)) (wanted : Wanted) → InLine before at put taken → Continues config who line before run replies → AllTurned run
+        (rest : List (Entry BoardCmd Reply)) (wanted : Wanted) → InLine before at put taken → Continues config who line before run replies → AllFittingReplies run
         → ((next : Option Phase) (ps ts : List ℕ) → InLine replies next ps ts → Through m next rest (behind wanted ps ts))
         → Through m at (board_part board run ++ rest) (behind wanted put taken)
-    line_moves before [] replies at put taken rest wanted stands goes turned leads =
+    line_moves before [] replies at put taken rest wanted stands goes fitting_replies leads =
         leads at put taken (subst (λ l. InLine l at put taken) goes stands)
-    line_moves before (mv ∷ run) replies at put taken rest wanted stands goes turned leads =
+    line_moves before (mv ∷ run) replies at put taken rest wanted stands goes fitting_replies leads =
         let made = attempts_of (Sharing s) config.tries (given_of before) in
         let makes = shares_makes (shared_next s made.given) (call_of mv.event) (sym (own_next before) ∙ goes.0) in
         let whole : (board_part board (mv ∷ []) ++ board_part board run) ++ rest ≡ board_part board (mv ∷ run) ++ rest =
         ap (λ es. es ++ rest) (sym (part_cons board mv run)) in
         subst (λ es. Through m at es (behind wanted put taken)) (sym (append_assoc (board_part board (mv ∷ [])) (board_part board run) rest) ∙ whole)
-        (move_on s board m uses made.given at put taken mv.who mv.event mv.reply (board_part board run ++ rest) wanted stands makes turned.0
+        (move_on s board m uses made.given at put taken mv.who mv.event mv.reply (board_part board run ++ rest) wanted stands makes fitting_replies.0
         (λ next ps ts after.
         line_moves (mv.reply ∷ before) run replies next ps ts rest wanted
-        (settles (record { given = Some mv.reply ∷ made.given; left = made.left }) next ps ts after) goes.1 turned.1 leads))
+        (settles (record { given = Some mv.reply ∷ made.given; left = made.left }) next ps ts after) goes.1 fitting_replies.1 leads))
 
-    -- at the end of the line the mailbox is left, and the words are those of the outcome
+    -- at the end of the line the phase is idle, and the words are those of the outcome
     pub line_over : (replies : List EventReply) (answer : LineReply) (at : Option Phase) (put taken : List ℕ) → InLine replies at put taken
         → line_next config who line replies ≡ Returns answer
         → (outcome : SharedOutcome) × (answer ≡ Shared outcome) × IsOver s.request outcome at put taken
@@ -129,7 +129,7 @@ module _ (s : SharedJob) (board : ℕ) (m : BoardMailbox) (uses : UsesMailbox s 
         let end = shares_ends (shared_next s made.given) answer (sym (own_next replies) ∙ ends) in
         (end.0, end.2, ends_in m board s.request (progress_of s made.given) at put taken end.0 stands end.1)
 
--- an entry that does not touch the mailbox keeps the idle phase
+-- a command that does not touch the mailbox keeps the idle phase
 beside : (m : BoardMailbox) (given : Option Command) (reply : Reply) → ((c : Command) → given ≡ Some c → touches m c ≡ false)
     → after_command m (Some Idle) given reply ≡ Some Idle
 beside m None reply alone = refl

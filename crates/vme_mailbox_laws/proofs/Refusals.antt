@@ -23,7 +23,7 @@ use Rattle.vme_decode.specs.Lawful as maps
 use Rattle.vme_decode.specs.declared.fault.MapFault.{MapFault}
 use Rattle.vme_decode.specs.declared.fault.MapFault.TheVariants.{Misaligned, OutsideSpace, Overlap}
 use Rattle.vme_decode.specs.Entries.{end_of}
-use Rattle.vme_decode.proofs.lemmas.Selection.{place_falls}
+use Rattle.vme_decode.proofs.lemmas.Selection.{place_responds}
 use Rattle.vme_shared.specs.MailboxSteps.{BoardMailbox}
 use Rattle.vme_shared.specs.declared.mailbox.Mailbox.{Mailbox}
 use Rattle.vme_shared.specs.Mailboxes.{IsMailbox, word_at, set_lock, read_word, refusal_in, mailbox_refusal}
@@ -103,7 +103,7 @@ word_none am addr is aligned within =
     none_refused is.row (read_word am addr) is.code refl is.alone refl refl
     (not_past (addresses_of is.row.space) (addr + 4) within) (rw (own_found Bytes03 addr (sym aligned)) refl)
 
--- an entry of a lawful map ends in its address space
+-- if a list has no first refusal, its second element is none and the elements after it have no first refusal
 no_other : (a b : Option MapFault) (more : List (Option MapFault)) → first_of (a ∷ b ∷ more) ≡ None
     → (b ≡ None) × (first_of more ≡ None)
 no_other None None more none = (refl, none)
@@ -118,7 +118,7 @@ not_outside limit last none =
       | inr within ↦ ltb-false limit last within
     ]
 
--- the first entry of a lawful map ends in its address space
+-- if a map's refusals have no first one, its first entry ends in its address space, nor have the others a first one
 own_end : (e : Entry) (more : List (Option MapFault)) → first_of (maps.entry_refusals e ++ more) ≡ None
     → (end_of e ≤ addresses_of e.space) × (first_of more ≡ None)
 own_end e more none =
@@ -153,7 +153,7 @@ module _ (map : List Entry) (mailbox : Mailbox) (board : ℕ) (m : BoardMailbox)
   inside : (row : CodeRow) → read_code mailbox.am ≡ Ok row → mailbox.addr + 16 + 4 * mailbox.slots ≤ addresses_of row.space
   inside row code =
       let last : 15 + 4 * mailbox.slots < 16 + 4 * m.slots = let same = lies.slots in omega arith in
-      let falls = place_falls map row (mailbox.addr + (15 + 4 * mailbox.slots)) board (m.offset + (15 + 4 * mailbox.slots))
+      let falls = place_responds map row (mailbox.addr + (15 + 4 * mailbox.slots)) board (m.offset + (15 + 4 * mailbox.slots))
       (lies.each row (15 + 4 * mailbox.slots) code last) in
       let in_space = ends map board falls.entry lawful falls.there in
       let within : falls.entry.base + falls.entry.size ≤ addresses_of row.space =

@@ -24,7 +24,7 @@ use Rattle.vme_shared.specs.declared.stage.Stage.TheVariants.{Locks, ReadsPutCou
 use Rattle.vme_shared.specs.declared.stage.StageResult.{StageResult}
 use Rattle.vme_shared.specs.declared.stage.StageResult.TheVariants.{Continue, Finish}
 use Rattle.vme_shared.specs.Mailboxes.{raised}
-use Rattle.vme_shared.specs.Steps.{has_top_bit, word_in, words_between, counted_stage, mailbox_step, step_after}
+use Rattle.vme_shared.specs.Steps.{has_top_bit, words_between, counted_stage, mailbox_step, step_after}
 use Rattle.vme_mailbox_laws.specs.Along.{mailbox_in, IsCount, put_by_outcome, taken_by_outcome}
 use Rattle.vme_mailbox_laws.proofs.Single.{reply_bytes}
 use Rattle.vme_mailbox_laws.proofs.Stages.{stage_command, stage_expected, stage_touches}
@@ -65,7 +65,7 @@ abbrev pub Leads : BoardMailbox → SharedRequest → StageResult → Phase → 
 Leads m request (Continue stage) phase put taken = Before m request stage phase × Words request stage put taken
 Leads m request (Finish end) phase put taken = (phase ≡ Idle) × (put ≡ put_by_outcome end request) × (taken ≡ taken_by_outcome end) × IsFineEnd end
 
--- a reply has the form that a stage needs, and is no bus error
+-- a reply has the form that a stage expects, and is no bus error
 pub record IsFine (m : BoardMailbox) (stage : Stage) (reply : Reply) : Type 0 where
   pub form : has_form (reply_len (stage_command m stage)) reply ≡ true
   pub good : reply ≢ Berr
@@ -83,13 +83,13 @@ pub record Went (m : BoardMailbox) (request : SharedRequest) (stage : Stage) (ph
 same_place : (at : ℕ) → (at == at) ≡ true
 same_place at = eq-eqb at at refl
 
--- the access of a stage touches the mailbox
+-- the phase after the command of a stage is the next phase after its access
 step_in : (m : BoardMailbox) (stage : Stage) (phase : Phase) (reply : Reply) (next : Option Phase) → 1 ≤ m.slots
     → next_phase m phase (access_of (stage_command m stage) reply) ≡ next
     → after_command m (Some phase) (Some (stage_command m stage)) reply ≡ next
 step_in m stage phase reply next some is = rw (stage_touches m stage some) is
 
--- the lock byte was held exactly if its top bit was set
+-- the top bit of one byte is set exactly if its number is 128 or more
 locks_found : (bytes : List ℕ) → length bytes ≡ 1 → has_top_bit bytes ≡ nat_le 128 (number_of bytes)
 locks_found [] long = absurd (omega arith)
 locks_found (byte ∷ []) long = let is : byte ≡ 256 * 0 + byte = omega arith in ap (nat_le 128) is
@@ -98,10 +98,6 @@ locks_found (byte ∷ other ∷ bytes) long = absurd (omega arith)
 -- no words followed by no words are no words
 nothing : (words : List ℕ) → words ≡ [] → words ++ [] ≡ []
 nothing words none = ap (λ ws. ws ++ []) none
-
--- four bytes that were read are a word
-fine_four : (bytes : List ℕ) → (length bytes == 4) ≡ true → word_in bytes ≡ Some (number_of bytes)
-fine_four bytes long = rw long refl
 
 module _ (m : BoardMailbox) (request : SharedRequest) (mailbox : Mailbox) (is : mailbox_in request ≡ Some mailbox) (slots : m.slots ≡ mailbox.slots)
     (some : 1 ≤ m.slots) (put taken : List ℕ) where
@@ -116,7 +112,7 @@ module _ (m : BoardMailbox) (request : SharedRequest) (mailbox : Mailbox) (is : 
       by_request (events.Put own word) is stage outcome = refl
       by_request (events.Take own) is stage outcome = refl
 
-  -- a stage leads to a next phase, if its access and its step do
+  -- a stage leads to the next phase to which its access and its step lead
   goes_by : (stage : Stage) (phase : Phase) (reply : Reply) (next : Phase) (step : StageResult)
       → next_phase m phase (access_of (stage_command m stage) reply) ≡ Some next
       → mailbox_step request stage (expected_outcome (stage_expected stage) (reply_bytes reply)) ≡ step

@@ -19,7 +19,7 @@ use Rattle.vme_shared.specs.declared.request.SharedRequest.{SharedRequest}
 use Rattle.vme_shared.specs.declared.request.SharedRequest.TheVariants as events
 use Rattle.vme_shared.specs.Mailboxes.{set_lock, clear_lock, refusal_in, shared_refusal}
 use Rattle.vme_mailbox_laws.specs.Along.{GoesTo}
-use Rattle.vme_mailbox_laws.proofs.Datums.{taken, given_back}
+use Rattle.vme_mailbox_laws.proofs.Datums.{taken, lock_cleared}
 use Rattle.vme_grammar.specs.Grammar.{IsOwnLine}
 use Rattle.vme_grammar.specs.declared.line.Line.TheVariants as lines
 use Rattle.vme_script.specs.declared.board_range.BoardRange.{BoardRange}
@@ -155,4 +155,4 @@ pub unlock_sends : (config : Configuration) (who am addr x : ℕ) (c : Command)
 unlock_sends config who am addr x c calls =
     let own = shared_calls config who (events.Unlock am addr) (OnBoard x (Some c)) calls in
     goes_among (entries_of config.boards) (clear_lock am addr) x _ c (λ at. (refl, refl)) own.1
-    (given_back (shared_job config who (events.Unlock am addr)) own.0.0 am addr x (Some c) refl own.0.1)
+    (lock_cleared (shared_job config who (events.Unlock am addr)) own.0.0 am addr x (Some c) refl own.0.1)

@@ -29,7 +29,7 @@ IsGoodTo (Invokes call) None = ⊥
 IsGoodTo (Invokes call) (Some reply) = IsTrue (fits call reply) × (reply ≢ replies.Board Berr) × (reply ≢ replies.Bus arb_replies.Denied)
 IsGoodTo (Returns outcome) last = Unit {0}
 
--- the datum has no reply yet: the job rests, requests the bus, looks, or sends its datum to the board
+-- the datum has no reply yet: the job has not started, requests the bus, polls the arbiter, or sends its datum
 pub record Waits (job : BusJob) (g : Inputs) : Type 0 where
   pub none : data_in g ≡ 0
   pub bytes : bytes_in g ≡ []
@@ -54,7 +54,7 @@ pub waits_called : (job : BusJob) (g : Inputs) → Waits job g → next_of (Bus 
 waits_called job g waits rests = record { none = waits.none; bytes = waits.bytes; next = inr (inl (rw rests refl)) }
 
 module _ (job : BusJob) (one : count_of job.transfer.request ≡ 1) where
-  -- the first call for data is the datum
+  -- the call for the first datum is the datum's command
   first_datum : datum_or_done job 0 ≡ datum_call job job.place 0
   first_datum = rw one refl
 
@@ -62,7 +62,7 @@ module _ (job : BusJob) (one : count_of job.transfer.request ≡ 1) where
   past_datum : (n : ℕ) → n ≡ 0 → datum_or_done job (n + 1) ≡ done_call job
   past_datum n none = rw none (rw one refl)
 
-  -- the datum has no reply after a reply of the arbiter to a request or a look
+  -- the datum has no reply after a reply of the arbiter to a request or a poll
   pub waits_reported : (g : Inputs) (cmd : Call) (reply : ArbReply) → ((cmd ≡ ask_call job) ⊎ (cmd ≡ look_call job)) → Waits job g
       → next_of (Bus job) g ≡ Invokes cmd → IsGoodTo (Invokes cmd) (Some (replies.Bus reply)) → Waits job (Some (replies.Bus reply) ∷ g)
   waits_reported g cmd arb_replies.Granted which waits makes good = record {

@@ -24,21 +24,21 @@ use Rattle.vme_shared.proofs.lemmas.Quiet.{no_put, no_taken}
 use Rattle.vme_mailbox_laws.specs.Along.{UsesMailbox, IsGood, IsCount, phase_given}
 use Rattle.vme_mailbox_laws.proofs.Datums.{commands, answered}
 use Rattle.vme_mailbox_laws.proofs.Courses.{Stands, moves, stands_count, command_goes}
-use Rattle.vme_mailbox_laws.specs.Runs.{IsTurned}
+use Rattle.vme_mailbox_laws.specs.Runs.{IsFittingReply}
 use Rattle.vme_mailbox_laws.proofs.Through.{IsAnswered, Wanted, behind, Through, through_map}
 
--- a goal after two lists of words
+-- a goal after words and further words is the goal after all of them
 pub joined : (wanted : Wanted) (put a taken b : List ℕ) (p : Option Phase) (ps ts : List ℕ) → behind wanted (put ++ a) (taken ++ b) p ps ts
     → behind (behind wanted put taken) a b p ps ts
 joined wanted put a taken b p ps ts is =
     subst (λ l. wanted p l (taken ++ (b ++ ts))) (append_assoc put a ps) (subst (λ l. wanted p ((put ++ a) ++ ps) l) (append_assoc taken b ts) is)
 
 module _ (s : SharedJob) (board : ℕ) (m : BoardMailbox) (uses : UsesMailbox s board m) where
-  -- the state of a put or a take by its replies, with its phase and words
+  -- the progress of a put or a take after these replies matches a phase and words
   abbrev pub IsIn : Inputs → Option Phase → List ℕ → List ℕ → Type 0
   IsIn given at put taken = Stands m board s.request (progress_of s given) at put taken
 
-  -- a good reply leads to the next state
+  -- after a good reply to its call, the progress matches the next phase and its words
   given_on : (given : Inputs) (at : Option Phase) (put taken : List ℕ) (call : Call) (reply : EventReply) (next : Option Phase) → IsIn given at put taken
       → shared_next s given ≡ Invokes call → IsGood (Invokes call) (Some reply) → phase_given m board (Invokes call) (Some reply) at ≡ next → IsCount next
       → IsIn (Some reply ∷ given) next (put ++ put_by at next) (taken ++ taken_by at next)
@@ -60,7 +60,7 @@ module _ (s : SharedJob) (board : ℕ) (m : BoardMailbox) (uses : UsesMailbox s 
 
   -- one transition and the entries after it follow the protocol and reach the goal
   pub one_move : (given : Inputs) (at : Option Phase) (put taken : List ℕ) (who : ℕ) (event : Event) (reply : EventReply)
-      (rest : List (Entry BoardCmd Reply)) (wanted : Wanted) → IsIn given at put taken → shared_next s given ≡ Invokes (call_of event) → IsTurned event reply
+      (rest : List (Entry BoardCmd Reply)) (wanted : Wanted) → IsIn given at put taken → shared_next s given ≡ Invokes (call_of event) → IsFittingReply event reply
       → ((next : Option Phase) (a b : List ℕ) → IsIn (Some reply ∷ given) next (put ++ a) (taken ++ b) → Through m next rest (behind wanted a b))
       → Through m at (board_part board (move who event reply ∷ []) ++ rest) wanted
   one_move given at put taken who (events.Bus cmd) (replies.Board reply) rest wanted stands makes good leads = absurd good
@@ -89,9 +89,9 @@ module _ (s : SharedJob) (board : ℕ) (m : BoardMailbox) (uses : UsesMailbox s 
             fine after count),
       ))
 
-  -- one transition and the entries after it reach the goal, by all words since the beginning
+  -- one transition and the entries after it reach the goal that remains after the words since the beginning
   pub move_on : (given : Inputs) (at : Option Phase) (put taken : List ℕ) (who : ℕ) (event : Event) (reply : EventReply)
-      (rest : List (Entry BoardCmd Reply)) (wanted : Wanted) → IsIn given at put taken → shared_next s given ≡ Invokes (call_of event) → IsTurned event reply
+      (rest : List (Entry BoardCmd Reply)) (wanted : Wanted) → IsIn given at put taken → shared_next s given ≡ Invokes (call_of event) → IsFittingReply event reply
       → ((next : Option Phase) (ps ts : List ℕ) → IsIn (Some reply ∷ given) next ps ts → Through m next rest (behind wanted ps ts))
       → Through m at (board_part board (move who event reply ∷ []) ++ rest) (behind wanted put taken)
   move_on given at put taken who event reply rest wanted stands makes good leads =

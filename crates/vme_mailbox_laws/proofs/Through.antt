@@ -1,7 +1,6 @@
 -- Entries of one caller that follow the protocol of a mailbox, and the goal that they reach.
-use Rattle.std.proofs.Common.{◌≡◌, ℕ, true, List, [], ◌∷◌, ◌++◌, Option, subst}
+use Rattle.std.proofs.Common.{◌≡◌, ℕ, true, List, [], ◌∷◌, ◌++◌, Option}
 use Rattle.std.specs.Prelude.{is_some}
-use Rattle.std.proofs.lemmas.List.{append_assoc}
 use Rattle.vme_object.specs.declared.history.Entry.{Entry}
 use Rattle.vme_memory.specs.declared.command.BoardCmd.{BoardCmd}
 use Rattle.vme_memory.specs.declared.reply.Reply.{Reply}
@@ -22,7 +21,7 @@ pub record IsAnswered (m : BoardMailbox) (e : Entry BoardCmd Reply) : Type 0 whe
 abbrev pub Wanted : Type 1
 Wanted = Option Phase → List ℕ → List ℕ → Type 0
 
--- a goal after these words
+-- the goal that remains after these words
 abbrev pub behind : Wanted → List ℕ → List ℕ → Wanted
 behind wanted put taken = λ p ps ts. wanted p (put ++ ps) (taken ++ ts)
 
@@ -45,23 +44,4 @@ through_map m at (e ∷ es) wanted less then through = λ answered.
       λ count.
           through_map m (after_entry m at e) es _ _ (λ p ps ts. then p (put_by at (after_entry m at e) ++ ps) (taken_by at (after_entry m at e) ++ ts))
           (first.1 count),
-    )
-
--- entries and the entries after them reach a goal together
-pub through_append : (m : BoardMailbox) (at : Option Phase) (es more : List (Entry BoardCmd Reply)) (wanted : Wanted)
-    → Through m at es (λ p ps ts. Through m p more (behind wanted ps ts)) → Through m at (es ++ more) wanted
-through_append m at [] more wanted through = through
-through_append m at (e ∷ es) more wanted through = λ answered.
-    let first = through answered in (
-      first.0,
-      λ count.
-          through_append m (after_entry m at e) es more _
-          (through_map m (after_entry m at e) es _ _
-          (λ p ps ts then.
-          through_map m p more _ _
-          (λ q qs us.
-          λ w. subst (λ l. wanted q l (taken_by at (after_entry m at e) ++ (ts ++ us))) (append_assoc (put_by at (after_entry m at e)) ps qs)
-          (subst (λ l. wanted q ((put_by at (after_entry m at e) ++ ps) ++ qs) l) (append_assoc (taken_by at (after_entry m at e)) ts us) w))
-          then)
-          (first.1 count)),
     )

@@ -11,9 +11,8 @@ use Rattle.vme_shared.specs.declared.mailbox.Mailbox.{Mailbox}
 use Rattle.vme_shared.specs.declared.stage.Stage.{Stage}
 use Rattle.vme_shared.specs.declared.stage.Stage.TheVariants.{Locks, ReadsPutCount, ReadsTakeCount, WritesWord, RaisesPutCount, ReadsWord, RaisesTakeCount, Unlocks}
 use Rattle.vme_shared.specs.Tables.{SharedJob, shared_next}
-use Rattle.vme_mailbox_laws.specs.Along.{mailbox_in, LiesAt, UsesMailbox, IsWithin, overlap}
+use Rattle.vme_mailbox_laws.specs.Along.{mailbox_in, LiesAt, IsWithin, overlap}
 use Rattle.vme_mailbox_laws.proofs.Stages.{stage_command}
-use Rattle.vme_mailbox_laws.proofs.Courses.{some_slot}
 use Rattle.vme_mailbox_laws.proofs.Datums.{stage_commands}
 
 -- the command of each stage is within the mailbox
@@ -36,15 +35,6 @@ within s given mailbox board x mine command asks lies some makes =
     let slot : 1 ≤ mine.slots = rw lies.slots some in
     let own = stage_commands s given mailbox board x mine command asks lies slot makes in
     (own.0, (stage_command mine own.1.0, own.1.1, stage_within mine own.1.0 slot))
-
--- the commands of a put or a take that is not refused are within the mailbox
-pub within_used : (s : SharedJob) (given : Inputs) (board x : ℕ) (m : BoardMailbox) (command : Command) → UsesMailbox s board m
-    → shared_next s given ≡ Invokes (OnBoard x (Some command)) → (x ≡ board) × IsWithin m command
-within_used s given board x m command uses makes =
-    let some : 1 ≤ uses.mailbox.slots = rw (← uses.lies.slots) (some_slot s board m uses) in
-    let own = within s given uses.mailbox board x m (Some command) uses.asked uses.lies some makes in
-    let same : own.1.0 ≡ command = cc in
-    (own.0, subst (λ c. IsWithin m c) same own.1.2)
 
 -- a command within a mailbox does not touch a mailbox that shares no byte with it
 pub beside : (mine other : BoardMailbox) (c : Command) → IsWithin mine c → overlap mine other ≡ false → touches other c ≡ false

@@ -1,5 +1,5 @@
--- Defines how the board of a mailbox sees a put or a take: where the mailbox lies, and the phases that its commands
--- lead through.
+-- Defines the commands of a put or a take to the board of its mailbox: where the mailbox lies, and the phases that the
+-- commands lead through.
 use Rattle.std.specs.Prelude.{ℕ, ◌≡◌, ◌≢◌, ◌+◌, ◌%◌, ◌^◌, ◌<◌, ◌≤◌, nat_lt, max, min, Bool, ◌==◌, if◌then◌else◌, List, [], ◌∷◌, ◌++◌, Option, Some, None, Ok, IsTrue}
 use Rattle.vme_am.specs.Codes.{CodeRow, read_code}
 use Rattle.vme_decode.specs.declared.entry.Entry.{Entry}

@@ -19,21 +19,21 @@ use Rattle.vme_line_task.specs.Scripts.{lines_at}
 use Rattle.vme_line_task.specs.Traces.{IsTrace}
 
 -- a reply is of its event's kind; a reply of the arbiter also fits its command and is no denial
-abbrev pub IsTurned : Event → EventReply → Type 0
-IsTurned (events.Bus cmd) (replies.Bus reply) = IsTrue (fits (OnBus cmd) (replies.Bus reply)) × (replies.Bus reply ≢ replies.Bus Denied)
-IsTurned (events.Board x cmd) (replies.Board reply) = Unit {0}
-IsTurned event reply = ⊥
+abbrev pub IsFittingReply : Event → EventReply → Type 0
+IsFittingReply (events.Bus cmd) (replies.Bus reply) = IsTrue (fits (OnBus cmd) (replies.Bus reply)) × (replies.Bus reply ≢ replies.Bus Denied)
+IsFittingReply (events.Board x cmd) (replies.Board reply) = Unit {0}
+IsFittingReply event reply = ⊥
 
--- all replies of a run satisfy `IsTurned`
-abbrev pub AllTurned : List Transition → Type 0
-AllTurned [] = Unit {0}
-AllTurned (m ∷ run) = IsTurned m.event m.reply × AllTurned run
+-- all replies of a run satisfy `IsFittingReply`
+abbrev pub AllFittingReplies : List Transition → Type 0
+AllFittingReplies [] = Unit {0}
+AllFittingReplies (m ∷ run) = IsFittingReply m.event m.reply × AllFittingReplies run
 
 -- a board's history is shared by one run of each processor; each run is the trace of its script with these replies, and
--- all its replies satisfy `IsTurned`
+-- all its replies satisfy `IsFittingReply`
 pub record ShareHistory (config : Configuration) (board : ℕ) (h : List (Entry BoardCmd Reply)) (runs : List (List Transition))
     (answers : List (List LineReply)) : Type 0 where
   pub known : All (λ e. e.who < length runs) h
   pub owns : Each (λ who run. own who h ≡ board_part board run) runs
   pub trace : AllAt (λ who run reported. IsTrace config who (lines_at config who) run reported) runs answers
-  pub turned : Each (λ who run. AllTurned run) runs
+  pub fitting_replies : Each (λ who run. AllFittingReplies run) runs

@@ -1,3 +1,4 @@
+//! The law that lines leave the mailboxes alone that they do not name.
 ghost use Rattle.std.specs.Prelude.{◌≡◌, ◌+◌, ℕ, Some, slice_get};
 ghost use Rattle.vme_shared.specs.declared.mailbox.Mailbox.{Mailbox};
 ghost use Rattle.vme_script.specs.Configurations.{Configuration};

@@ -1,6 +1,5 @@
-//! Laws of puts and takes, as the board of their mailbox sees them: their commands follow the
-//! mailbox protocol, their outcomes report the words that they put and take, and mailboxes are
-//! queues.
+//! Laws of puts and takes: their commands to the board of their mailbox follow the mailbox
+//! protocol, their outcomes report the words that they put and take, and mailboxes are queues.
 #![tactic(auto)]
 
 mod isolation_laws;
@@ -14,5 +13,5 @@ pub use queue_laws::{
 };
 pub use task_laws::{
     locks_touch_their_byte_alone, puts_and_takes_follow_the_protocol,
-    puts_and_takes_stay_in_their_mailbox, puts_and_takes_touch_their_mailbox_alone,
+    puts_and_takes_stay_in_their_mailbox, puts_and_takes_touch_their_mailbox,
 };

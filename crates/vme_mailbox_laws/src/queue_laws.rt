@@ -1,3 +1,4 @@
+//! Laws of mailboxes as queues of words.
 ghost use Rattle.std.specs.Prelude.{◌≡◌, ◌+◌, ◌≤◌, ℕ, List, Some, None, length};
 ghost use Rattle.vme_object.specs.declared.history.Entry.{Entry};
 ghost use Rattle.vme_object.specs.History.{IsLegal, own, IsPrefix};

@@ -1,3 +1,4 @@
+//! Laws of the commands that locks, puts and takes send to boards.
 ghost use Rattle.std.specs.Prelude.{◌≡◌, ◌≢◌, ◌≤◌, ◌∷◌, [], ℕ, false, Option, Some, IsTrue, is_some};
 ghost use Rattle.vme_cycle.specs.declared.modify.Modify.TheVariants.{Set};
 ghost use Rattle.vme_memory.specs.Boards.{Board};
@@ -19,7 +20,7 @@ ghost use Rattle.vme_mailbox_laws.specs.Along.{mailbox_in, LiesAt, IsWithin, ove
 /// Each command that a put or a take sends to a board goes to the board of its mailbox and touches
 /// the mailbox. If the mailbox lies wholly in a board that answers quad-byte cycles and
 /// read-modify-writes, the reply is good: it fits and is not a bus error.
-pub fn puts_and_takes_touch_their_mailbox_alone()
+pub fn puts_and_takes_touch_their_mailbox()
     ensures touches { (s : SharedJob) (given : Inputs) (board x : ℕ) (m : BoardMailbox)
         (command : Option Command) → UsesMailbox s board m →
         shared_next s given ≡ Invokes (OnBoard x command) →
@@ -78,7 +79,7 @@ pub fn locks_touch_their_byte_alone()
     ensures taken { (s : SharedJob) (given : Inputs) (am addr board : ℕ) (command : Option Command) →
         s.request ≡ Lock am addr → shared_next s given ≡ Invokes (OnBoard board command) →
         GoesTo s.map am addr board (λ offset. Modify offset 1 Set) command }
-    ensures given_back { (s : SharedJob) (given : Inputs) (am addr board : ℕ)
+    ensures lock_cleared { (s : SharedJob) (given : Inputs) (am addr board : ℕ)
         (command : Option Command) → s.request ≡ Unlock am addr →
         shared_next s given ≡ Invokes (OnBoard board command) →
         GoesTo s.map am addr board (λ offset. Write offset (0 ∷ [])) command }

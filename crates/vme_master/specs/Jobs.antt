@@ -60,7 +60,8 @@ datum_call job (Some place) i =
 abbrev pub local_call : LocalJob → Call
 local_call job = OnBoard job.board (command_given job.cmd)
 
--- whether a reply answers a command: `Freed` only a release, `Granted` and `Waiting` only a request or a poll
+-- whether the arbiter can give a reply to a command: `Freed` only to a release, `Granted` and `Waiting` only to a request
+-- or a poll
 abbrev pub answers_command : ArbCmd → ArbReply → Bool
 answers_command (Ask slot level) Freed = false
 answers_command (Look slot) Freed = false
@@ -68,8 +69,8 @@ answers_command (Done slot) Granted = false
 answers_command (Done slot) Waiting = false
 answers_command cmd reply = true
 
--- whether a reply fits a call: the arbiter's answers its command; a board's has as many bytes as the command reads, is
--- done if it reads none, or is a bus error
+-- whether a reply fits a call: the arbiter can give it to the command; a board's has as many bytes as the command reads,
+-- is done if it reads none, or is a bus error
 abbrev pub fits : Call → EventReply → Bool
 fits (OnBus cmd) (replies.Bus reply) = answers_command cmd reply
 fits (OnBoard board command) (replies.Board reply) = has_form (option_and_then reply_len command) reply
@@ -84,7 +85,7 @@ request_expected (requests.Write am addr bytes) = expected_replies.Write
 request_expected (requests.BlockWrite am addr n bytes) = expected_replies.Write
 request_expected (requests.BlockFill am addr n count bytes) = expected_replies.Write
 
--- the reply that a board command expects; an absent command expects no bytes, since the board replies a bus error
+-- the reply that a board command expects; an absent command expects no bytes, since its reply is a bus error
 abbrev pub command_expected : Option Command → ExpectedReply
 command_expected (Some (LocalRead at n)) = expected_replies.Read n
 command_expected (Some (Read at n)) = expected_replies.Read n

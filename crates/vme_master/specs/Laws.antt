@@ -1,4 +1,4 @@
--- What the laws of a task's calls rest on: the arbiter's last reply, and the data of a request in their order.
+-- The arbiter's last reply, the next datum of a request, and the boards of a job, for the laws of a task's calls.
 use Rattle.std.specs.Prelude.{ℕ, ◌≡◌, ◌+◌, ◌*◌, ◌<◌, [], ◌∷◌, Option, Some, None}
 use Rattle.vme_cycle.specs.Requests.{datum_len, count_of}
 use Rattle.vme_memory.specs.Steps.{Command}

@@ -3,3 +3,4 @@ pub mod Tables
 pub mod Machine
 pub mod Events
 pub mod Laws
+pub mod CurrentData

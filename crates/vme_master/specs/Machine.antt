@@ -157,7 +157,7 @@ job_next (Local job) phase read = local_next job phase read
 abbrev pub to_do : TaskView → NextStep Outcome
 to_do t = job_next t.job t.phase t.read
 
--- the offset of a transfer's first byte is at most its address, and leaves the same remainder by four
+-- the offset of a transfer's first byte is at most its address, and has the same remainder modulo four
 abbrev pub IsPlaced : Job → Type 0
 IsPlaced (Bus job) =
     IfSome job.place (λ place. (place.1 ≤ addr_of job.transfer.request) × (place.1 % 4 ≡ addr_of job.transfer.request % 4))

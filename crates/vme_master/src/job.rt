@@ -5,11 +5,13 @@ ghost use Rattle.vme_memory.specs.Locals.{command_given};
 ghost use Rattle.vme_core.specs.Calls.{OnBoard};
 ghost use Rattle.vme_core.specs.EventRefs.{call_asked};
 ghost use Rattle.vme_core.specs.NextSteps.{call_in, result_in};
+ghost use Rattle.vme_master.specs.CurrentData.{bus_datum, job_datum};
 ghost use Rattle.vme_master.specs.Jobs.{datum_call};
 ghost use Rattle.vme_master.specs.Machine.{job_expected, datum_phase, phase_at, first_phase, phase_answered, phase_replied, bus_next, local_next, job_next, end_outcome, IsPlaced, IsShort, call_count, job_read_len};
 ghost use Rattle.vme_master.specs.declared.phase.Phase.TheVariants.{Transferring};
 ghost use Rattle.vme_master.specs.Events.{outcome_in};
 
+use crate::current::CurrentDatum;
 use crate::expected::ExpectedReply;
 use crate::outcome::{Outcome, OutcomeRef};
 use crate::phase::Phase;
@@ -73,6 +75,20 @@ impl BusJob<'_> {
             Phase::Releasing { .. } => Some(EventRef::Bus(ArbCmd::Done { slot })),
             Phase::New | Phase::Finished { .. } | Phase::Denied => None,
         }
+    }
+
+    /// The datum that the transfer is at in a phase.
+    fn current_datum(&self, phase: Phase) -> CurrentDatum<'_>
+        requires { (i : ℕ) → phase ≡ Transferring i → i < count_of self.now.transfer.request }
+        ensures { result ≡ bus_datum self.now phase }
+    {
+        let plan = self.transfer.plan();
+        prove!(0 < plan.len());
+        let number = match phase {
+            Phase::Transferring { i } => i,
+            _ => 0,
+        };
+        CurrentDatum::new(plan, number, self.place.is_some())
     }
 
     /// The phase at datum `i`: its transfer, or the release of the bus past the last datum or
@@ -144,6 +160,17 @@ impl Job<'_> {
         match self {
             Job::Bus(job) => job.event_ref(phase),
             Job::Local(job) => job.event_ref(phase),
+        }
+    }
+
+    /// The datum that the job is at in a phase, if it is a transfer over the bus.
+    pub(crate) fn current_datum(&self, phase: Phase) -> Option<CurrentDatum<'_>>
+        requires { (i : ℕ) → phase ≡ Transferring i → i < call_count self.now }
+        ensures { result ≡ job_datum self.now phase }
+    {
+        match self {
+            Job::Bus(job) => Some(job.current_datum(phase)),
+            Job::Local(_) => None,
         }
     }
 

@@ -2,7 +2,7 @@ ghost use Rattle.std.specs.Prelude.{◌≡◌, ◌≢◌, ◌<◌, ◌⊎◌, �
 ghost use Rattle.vme_cycle.specs.Requests.{addr_of};
 ghost use Rattle.vme_cycle.specs.Lawful.{Transfer};
 ghost use Rattle.vme_decode.specs.declared.entry.Entry.{Entry};
-ghost use Rattle.vme_decode.specs.Select.{FallsTo};
+ghost use Rattle.vme_decode.specs.Select.{RespondsAt};
 ghost use Rattle.vme_memory.specs.Boards.{Board};
 ghost use Rattle.vme_memory.specs.Steps.{Command};
 ghost use Rattle.vme_arbiter.specs.declared.command.ArbCmd.{ArbCmd};
@@ -64,7 +64,7 @@ pub fn boards_are_of_the_map()
     ensures falls { (map : List Entry) (slot level : ℕ) (t : Transfer) (given : Inputs) (board : ℕ)
         (command : Option Command) →
         next_of (bus_job map slot level t) given ≡ Invokes (OnBoard board command) →
-        (offset : ℕ) × FallsTo map t.am (addr_of t.request) board offset }
+        (offset : ℕ) × RespondsAt map t.am (addr_of t.request) board offset }
     ensures map { (map : List Entry) (slot level : ℕ) (t : Transfer) →
         IsBelow (length map) (bus_job map slot level t) }
     ensures below { (n : ℕ) (job : Job) (given : Inputs) (board : ℕ) (command : Option Command) →
@@ -90,7 +90,7 @@ pub fn transfers_keep_their_tenure()
         reply ≡ replies.Bus Freed }
 {}
 
-/// States that every reply of a board or of the arbiter fits the command that it answers.
+/// States that every reply of a board or of the arbiter fits its command.
 pub fn replies_fit()
     ensures board { (memory : Board) (board : ℕ) (command : Option Command) →
         IsTrue (fits (OnBoard board command) (replies.Board (command_step memory command).1)) }

@@ -6,6 +6,7 @@
 //! several.
 #![tactic(auto)]
 
+mod current;
 mod expected;
 mod job;
 mod laws;
@@ -14,6 +15,7 @@ mod phase;
 mod task;
 mod todo;
 
+pub use current::CurrentDatum;
 pub use laws::{
     boards_are_of_the_map, data_go_in_order, replies_fit, tasks_go_by_the_table,
     transfers_keep_their_tenure,

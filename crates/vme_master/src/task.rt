@@ -9,10 +9,12 @@ ghost use Rattle.vme_core.specs.EventRefs.{call_asked};
 ghost use Rattle.vme_core.specs.Machines.{process_count};
 ghost use Rattle.vme_core.specs.NextSteps.{NotStarted, call_in, result_in};
 ghost use Rattle.vme_core.specs.Advances.{CanMake, AdvancesOn};
+ghost use Rattle.vme_master.specs.CurrentData.{task_datum, job_command};
 ghost use Rattle.vme_master.specs.Tables.{Inputs, next_of};
 ghost use Rattle.vme_master.specs.Machine.{bytes_of, fresh_task, bus_task, advance, task_given, to_do, is_called, job_read_len, IsPlaced};
 ghost use Rattle.vme_master.specs.Events.{call_of_todo, outcome_in};
 
+use crate::current::CurrentDatum;
 use crate::expected::ExpectedReply;
 use crate::job::{BusJob, Job, LocalJob};
 use crate::outcome::{Outcome, OutcomeRef};
@@ -169,8 +171,8 @@ impl<'a> Task<'a> {
     {
         match reply {
             None => self.call(),
-            Some(EventReply::Bus(reply)) => self.turn(self.phase, *reply),
-            Some(EventReply::Board(reply)) => self.answer(self.phase, reply),
+            Some(EventReply::Bus(reply)) => self.on_bus_reply(self.phase, *reply),
+            Some(EventReply::Board(reply)) => self.on_board_reply(self.phase, reply),
         }
     }
 
@@ -196,33 +198,50 @@ impl<'a> Task<'a> {
             (Job::Bus(job), Phase::Requesting) => {
                 let (slot, level) = (job.slot, job.level);
                 let reply = core.apply_bus(who, ArbCmd::Ask { slot, level });
-                self.turn(Phase::Requesting, reply);
+                self.on_bus_reply(Phase::Requesting, reply);
             }
             (Job::Bus(job), Phase::Polling) => {
                 let reply = core.apply_bus(who, ArbCmd::Look { slot: job.slot });
-                self.turn(Phase::Polling, reply);
+                self.on_bus_reply(Phase::Polling, reply);
             }
             (Job::Bus(job), Phase::Releasing { berr }) => {
                 let reply = core.apply_bus(who, ArbCmd::Done { slot: job.slot });
-                self.turn(Phase::Releasing { berr }, reply);
+                self.on_bus_reply(Phase::Releasing { berr }, reply);
             }
             (Job::Bus(job), Phase::Transferring { i }) => {
                 let Some((board, offset)) = job.place else {
                     let reply = core.apply_bus(who, ArbCmd::Done { slot: job.slot });
-                    return self.turn(Phase::Transferring { i }, reply);
+                    return self.on_bus_reply(Phase::Transferring { i }, reply);
                 };
                 let reply = core.apply_datum(who, board, &job.datum_at(board, offset, i));
-                self.answer(Phase::Transferring { i }, &reply);
+                self.on_board_reply(Phase::Transferring { i }, &reply);
             }
             (Job::Local(job), Phase::Transferring { i }) => {
                 let reply = core.apply_board(who, job.board, &job.cmd);
-                self.answer(Phase::Transferring { i }, &reply);
+                self.on_board_reply(Phase::Transferring { i }, &reply);
             }
             _ => {}
         }
     }
 
-    /// Returns whether the task has ended. It reads less than `outcome`.
+    /// Returns the datum that the task is at, if it is a transfer over the bus.
+    pub fn current_datum(&self) -> Option<CurrentDatum<'_>>
+        ensures { result ≡ task_datum self.now }
+    {
+        self.job.current_datum(self.phase)
+    }
+
+    /// Returns a copy of the command to a local port, if the task is one.
+    pub fn local_command(&self) -> Option<BoardCmd>
+        ensures { result ≡ job_command self.now.job }
+    {
+        match &self.job {
+            Job::Bus(_) => None,
+            Job::Local(job) => Some(job.cmd.copy()),
+        }
+    }
+
+    /// Returns whether the task has ended. It reads fewer fields than `outcome`.
     #[inline(always)]
     pub fn is_finished(&self) -> bool
         ensures { result ≡ is_some (result_in (to_do self.now)) }
@@ -260,7 +279,7 @@ impl<'a> Task<'a> {
         }
     }
 
-    /// Puts the task back before its first call.
+    /// Returns the task to its state before the first call.
     pub fn restart(&mut self)
         ensures { self.new ≡ fresh_task self.old.job }
     {
@@ -283,7 +302,7 @@ impl<'a> Task<'a> {
 
     /// Handles the arbiter's reply. `phase` is the task's own, which the caller knows.
     #[inline(always)]
-    fn turn(&mut self, phase: Phase, reply: ArbReply)
+    fn on_bus_reply(&mut self, phase: Phase, reply: ArbReply)
         requires { self.old.phase ≡ phase }
         ensures task { self.new ≡ advance self.old (Some (replies.Bus reply)) }
         ensures called { IsTrue (is_called self.new.phase) }
@@ -298,7 +317,7 @@ impl<'a> Task<'a> {
 
     /// Handles a board's reply. `phase` is the task's own, which the caller knows.
     #[inline(always)]
-    fn answer(&mut self, phase: Phase, reply: &Reply)
+    fn on_board_reply(&mut self, phase: Phase, reply: &Reply)
         requires { self.old.phase ≡ phase }
         ensures task { self.new ≡ advance self.old (Some (replies.Board reply.now)) }
         ensures called { IsTrue (is_called self.new.phase) }

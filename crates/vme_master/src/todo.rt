@@ -9,7 +9,8 @@ use vme_core::{Event, EventRef};
 pub enum Todo {
     /// The caller performs this event and gives the task the reply.
     Call(Event),
-    /// The task has ended. `Task::outcome` lends its outcome, and `Task::into_outcome` returns it.
+    /// The task has ended. `Task::outcome` returns its outcome by reference, and
+    /// `Task::into_outcome` by value.
     Finished,
 }
 

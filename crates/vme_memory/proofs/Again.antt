@@ -1,4 +1,4 @@
--- The bytes that a command writes are those that a command reads again.
+-- A read after a write at the same place replies with the bytes that were written.
 use Rattle.std.proofs.Common.{◌≡◌, ℕ, ◌+◌, ◌≤◌, true, List, length, slice_range, refl, ap, ◌∙◌, arith, inl, inr}
 use Rattle.std.proofs.lemmas.Bool.{cases_Bool, and_parts, leb-true}
 use Rattle.std.proofs.lemmas.Grind.{common_steps}
@@ -18,14 +18,14 @@ same_len bytes new at fits = grind (arith, common_steps)
 after : Board → ℕ → List ℕ → Board
 after board at new = record board { bytes = bytes_after_write board.bytes at new }
 
--- the board after the step of a write that it carries out
+-- the step of a write that the board carries out leaves the board with the new bytes at their offset
 left_there :
     (board : Board) (command : Command) (at : ℕ) (new : List ℕ) → can_answer board command ≡ true → effect_of board command ≡ write_at board at new
     → (step board command).1 ≡ after board at new
 unfolding after
 left_there board command at new can does = rw can (ap (λ p. p.1) does)
 
--- the bytes that a read returns after a write at the same offset
+-- a read after a write at the same offset replies with the new bytes
 read_there :
     (board : Board) (command : Command) (at : ℕ) (new : List ℕ) → at + length new ≤ length board.bytes → can_answer (after board at new) command ≡ true
     → effect_of (after board at new) command ≡ read_at (after board at new) at (length new)

@@ -46,7 +46,7 @@ put_byte word new mask k zeros ones =
     ∙ ap (bit_or 0) (byte_and new mask k ∙ ap (bit_and (new / 2 ^ k % 2 ^ 8)) ones ∙ whole_byte (new / 2 ^ k))
     ∙ or_zero_l (new / 2 ^ k % 2 ^ 8)
 
--- the lowest byte
+-- the lowest byte of a number is the number modulo 256
 low_byte : (n : ℕ) → n / 2 ^ 0 % 2 ^ 8 ≡ n % 256
 low_byte n = omega arith
 

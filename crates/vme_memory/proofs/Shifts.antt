@@ -26,7 +26,7 @@ three a b c e f g p q r = cc
 abbrev pub upper : ℕ → ℕ → ℕ → ℕ
 upper here next place = (here * 4294967296 % 18446744073709551616 + next) * 2 ^ (8 * place) % 18446744073709551616 / 4294967296
 
--- the upper half has the four bytes at that place
+-- the upper half of two words that are shifted up by a place has the four bytes at that place
 pub upper_bytes :
     (here next place : ℕ) → here < 2 ^ 32 → next < 2 ^ 32 → place < 4
     → word_bytes (upper here next place) ≡ slice_range (word_bytes here ++ word_bytes next) place (place + 4)
@@ -97,34 +97,34 @@ merged_from word new (suc (suc (suc zero))) (suc zero) some few = merged_at_row 
 merged_from word new place len some few = absurd (omega arith)
 
 -- a word rotated right by a number of bytes
-abbrev pub turned : ℕ → ℕ → ℕ
-turned new place = rotate_right w32 new (8 * place)
+abbrev pub rotated_word : ℕ → ℕ → ℕ
+rotated_word new place = rotate_right w32 new (8 * place)
 
 -- a rotated word has its low bits before its high bits
-turned_at :
+rotated_at :
     (new low high : ℕ) → new / 2 ^ low < 2 ^ high → new * 2 ^ high % 2 ^ 32 ≡ new % 2 ^ low * 2 ^ high
     → bit_or (new / 2 ^ low) (new * 2 ^ high % 2 ^ 32) ≡ new % 2 ^ low * 2 ^ high + new / 2 ^ low
-turned_at new low high fits last =
+rotated_at new low high fits last =
     ap (bit_or (new / 2 ^ low)) last ∙ or_comm (new / 2 ^ low) (new % 2 ^ low * 2 ^ high) ∙ or_shifted (new % 2 ^ low) high (new / 2 ^ low) fits
 
 -- a rotated word has its last bytes before its first ones
-turned_bytes :
+rotated_bytes :
     (new place : ℕ) → new < 2 ^ 32 → place < 4
-    → word_bytes (turned new place) ≡ drop (4 - place) (word_bytes new) ++ take (4 - place) (word_bytes new)
+    → word_bytes (rotated_word new place) ≡ drop (4 - place) (word_bytes new) ++ take (4 - place) (word_bytes new)
 unfolding word_bytes
-turned_bytes new zero small less =
-    let same : turned new 0 ≡ new = ap (bit_or (new / 1)) (omega arith) ∙ or_self (new / 1) ∙ omega arith in
+rotated_bytes new zero small less =
+    let same : rotated_word new 0 ≡ new = ap (bit_or (new / 1)) (omega arith) ∙ or_self (new / 1) ∙ omega arith in
     rw same refl
-turned_bytes new (suc zero) small less =
-    let same : turned new 1 ≡ new % 2 ^ 8 * 2 ^ 24 + new / 2 ^ 8 = turned_at new 8 24 (omega arith) (omega arith) in
+rotated_bytes new (suc zero) small less =
+    let same : rotated_word new 1 ≡ new % 2 ^ 8 * 2 ^ 24 + new / 2 ^ 8 = rotated_at new 8 24 (omega arith) (omega arith) in
     rw same (four _ _ _ _ _ _ _ _ (omega arith) (omega arith) (omega arith) (omega arith))
-turned_bytes new (suc (suc zero)) small less =
-    let same : turned new 2 ≡ new % 2 ^ 16 * 2 ^ 16 + new / 2 ^ 16 = turned_at new 16 16 (omega arith) (omega arith) in
+rotated_bytes new (suc (suc zero)) small less =
+    let same : rotated_word new 2 ≡ new % 2 ^ 16 * 2 ^ 16 + new / 2 ^ 16 = rotated_at new 16 16 (omega arith) (omega arith) in
     rw same (four _ _ _ _ _ _ _ _ (omega arith) (omega arith) (omega arith) (omega arith))
-turned_bytes new (suc (suc (suc zero))) small less =
-    let same : turned new 3 ≡ new % 2 ^ 24 * 2 ^ 8 + new / 2 ^ 24 = turned_at new 24 8 (omega arith) (omega arith) in
+rotated_bytes new (suc (suc (suc zero))) small less =
+    let same : rotated_word new 3 ≡ new % 2 ^ 24 * 2 ^ 8 + new / 2 ^ 24 = rotated_at new 24 8 (omega arith) (omega arith) in
     rw same (four _ _ _ _ _ _ _ _ (omega arith) (omega arith) (omega arith) (omega arith))
-turned_bytes new (suc (suc (suc (suc place)))) small less = absurd (omega arith)
+rotated_bytes new (suc (suc (suc (suc place)))) small less = absurd (omega arith)
 
 -- the bytes of two words that share a third one under the byte enables of a location: the first takes the location's
 -- part, the second all other bytes
@@ -144,25 +144,25 @@ shared_from here next word place =
 -- under the mask of the bytes at a place, two words take the four bytes of a rotated word
 pub merged_across :
     (here next place new : ℕ) → new < 2 ^ 32 → place < 4
-    → word_bytes (merged here (turned new place) (4294967295 / 2 ^ (8 * place)))
-    ++ word_bytes (merged (turned new place) next (4294967295 / 2 ^ (8 * place)))
+    → word_bytes (merged here (rotated_word new place) (4294967295 / 2 ^ (8 * place)))
+    ++ word_bytes (merged (rotated_word new place) next (4294967295 / 2 ^ (8 * place)))
     ≡ bytes_after_write (word_bytes here ++ word_bytes next) place (word_bytes new)
 unfolding word_bytes
 merged_across here next zero new small less =
-    shared Bytes03 here next (turned new 0)
-    ∙ ap (λ bytes. shared_from (word_bytes here) (word_bytes next) bytes 0) (turned_bytes new 0 small less)
+    shared Bytes03 here next (rotated_word new 0)
+    ∙ ap (λ bytes. shared_from (word_bytes here) (word_bytes next) bytes 0) (rotated_bytes new 0 small less)
 merged_across here next (suc zero) new small less =
-    shared Bytes13 here next (turned new 1)
-    ∙ ap (λ bytes. shared_from (word_bytes here) (word_bytes next) bytes 1) (turned_bytes new 1 small less)
+    shared Bytes13 here next (rotated_word new 1)
+    ∙ ap (λ bytes. shared_from (word_bytes here) (word_bytes next) bytes 1) (rotated_bytes new 1 small less)
 merged_across here next (suc (suc zero)) new small less =
-    shared Bytes23 here next (turned new 2)
-    ∙ ap (λ bytes. shared_from (word_bytes here) (word_bytes next) bytes 2) (turned_bytes new 2 small less)
+    shared Bytes23 here next (rotated_word new 2)
+    ∙ ap (λ bytes. shared_from (word_bytes here) (word_bytes next) bytes 2) (rotated_bytes new 2 small less)
 merged_across here next (suc (suc (suc zero))) new small less =
-    shared Byte3 here next (turned new 3)
-    ∙ ap (λ bytes. shared_from (word_bytes here) (word_bytes next) bytes 3) (turned_bytes new 3 small less)
+    shared Byte3 here next (rotated_word new 3)
+    ∙ ap (λ bytes. shared_from (word_bytes here) (word_bytes next) bytes 3) (rotated_bytes new 3 small less)
 merged_across here next (suc (suc (suc (suc place)))) new small less = absurd (omega arith)
 
--- the first bytes of a word, in two parts
+-- the first h bytes of a word, followed by the first n - h bytes of the word shifted up by h bytes, are its first n bytes
 pub halves :
     (word h n : ℕ) → word < 2 ^ 32 → 0 < h → h < n → n ≤ 4
     → take h (word_bytes word) ++ take (n - h) (word_bytes (word * 2 ^ (8 * h) % 4294967296)) ≡ take n (word_bytes word)

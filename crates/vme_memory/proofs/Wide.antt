@@ -16,7 +16,7 @@ whole_read :
 whole_read words i word less own =
     read_in_word words i 0 4 word less (omega arith) ∙ ap (λ w. slice_range (word_bytes w) 0 (0 + 4)) (sym own) ∙ whole_word word
 
--- the next word exists
+-- if eight bytes at a multiple of four lie within the words, the second word exists
 pub wide_there : (words : List ℕ) (at : ℕ) → at + 8 ≤ length (bytes_of_words words) → at % 4 ≡ 0 → at / 4 + 1 < length words
 wide_there words at within place = omega (arith, words_len words)
 

@@ -1,9 +1,10 @@
 -- Bytes in words: the offsets of a word's bytes, and the effect of a change to one word.
 use Rattle.std.proofs.Common.{◌≡◌, ℕ, ◌+◌, ◌-◌, ◌*◌, ◌<◌, ◌≤◌, zero, suc, List, [], ◌∷◌, ◌++◌, length, take, drop, get_or, set, slice_range, replicate, None, min, refl, ap, sym, ◌∙◌, arith}
-use Rattle.std.specs.Prelude.{slice_get, ◌/◌, ◌%◌, ◌^◌}
+use Rattle.std.specs.Prelude.{slice_get, ◌/◌, ◌%◌, ◌^◌, bit_or}
 use Rattle.std.proofs.lemmas.Grind.{common_steps}
 use Rattle.std.proofs.lemmas.List.{set_split, take-append-drop, length-take-le, length-append, length-drop, get_or-drop, take_more, take_min, append-nil, take_at, append_assoc, drop-drop, drop_at, drop-append-le, take-append-le, drop_more}
 use Rattle.std.proofs.lemmas.List.Concat.{flat_map-append}
+use Rattle.std.proofs.lemmas.Nat.{le_or_l, le_or_r}
 use Rattle.std.proofs.lemmas.Option.{slice_get_past}
 use Rattle.std.proofs.Math.Seq.{take-add, take-append-add}
 use Rattle.vme_memory.specs.Words.{bytes_after_write, word_bytes, bytes_of_words}
@@ -18,7 +19,7 @@ pub words_len : (words : List ℕ) → length (bytes_of_words words) ≡ 4 * len
 words_len [] = refl
 words_len (word ∷ words) = grind (arith, common_steps, word_len word, words_len words)
 
--- the bytes before a word, its own, and those after it
+-- the bytes of words are those before word i, its own, and those after it
 parted :
     (words : List ℕ) (i d : ℕ) → i < length words
     → bytes_of_words words ≡ bytes_of_words (take i words) ++ (word_bytes (get_or words i d) ++ bytes_of_words (drop (i + 1) words))
@@ -26,7 +27,7 @@ parted words i d less =
     ap bytes_of_words (sym (take-append-drop i words) ∙ ap (λ rest. take i words ++ rest) (drop_more words i d less))
     ∙ flat_map-append word_bytes (take i words) (get_or words i d ∷ drop (i + 1) words)
 
--- the number of bytes before a word
+-- the words before word i have 4 i bytes
 prefix_len : (words : List ℕ) (i : ℕ) → i < length words → length (bytes_of_words (take i words)) ≡ 4 * i
 prefix_len words i less = words_len (take i words) ∙ ap (λ n. 4 * n) (length-take-le i words (omega arith))
 
@@ -160,7 +161,7 @@ take_words (word ∷ words) (suc i) =
     let more : 4 * suc i ≡ suc (suc (suc (suc (4 * i)))) = omega arith in
     rw more (ap (λ bytes. word / 256 ^ 3 % 256 ∷ word / 256 ^ 2 % 256 ∷ word / 256 ^ 1 % 256 ∷ word % 256 ∷ bytes) (take_words words i))
 
--- a byte is one of its word
+-- the byte at place p of word i is the byte at offset 4 i + p
 pub byte_in_word :
     (words : List ℕ) (i p d : ℕ) → i < length words → p < 4
     → slice_get (bytes_of_words words) (4 * i + p) ≡ slice_get (word_bytes (get_or words i d)) p
@@ -186,11 +187,11 @@ zero_words (suc n) = let more : 4 * suc n ≡ suc (suc (suc (suc (4 * n)))) = om
 pub word_there : (words : List ℕ) (at : ℕ) → at < length (bytes_of_words words) → at / 4 < length words
 word_there words at less = omega (arith, words_len words)
 
--- an offset by its word and its place in the word
+-- an offset is four times the number of its word, plus its place in the word
 split_place : (at : ℕ) → at ≡ 4 * (at / 4) + at % 4
 split_place at = omega arith
 
--- a read within one word, at any offset
+-- the bytes at an offset that lie within one word are those at their place in that word
 pub read_at :
     (words : List ℕ) (at n word : ℕ) → word ≡ get_or words (at / 4) word → at < length (bytes_of_words words) → at % 4 + n ≤ 4
     → slice_range (bytes_of_words words) at (at + n) ≡ slice_range (word_bytes word) (at % 4) (at % 4 + n)
@@ -199,7 +200,7 @@ read_at words at n word own less few =
     ∙ read_in_word words (at / 4) (at % 4) n word (word_there words at less) few
     ∙ ap (λ w. slice_range (word_bytes w) (at % 4) (at % 4 + n)) (sym own)
 
--- a write within one word, at any offset
+-- bytes that are written within one word are written at their offset
 pub written_at :
     (words new : List ℕ) (at old word : ℕ) → old ≡ get_or words (at / 4) old → at < length (bytes_of_words words) → at % 4 + length new ≤ 4
     → word_bytes word ≡ bytes_after_write (word_bytes old) (at % 4) new
@@ -209,7 +210,7 @@ written_at words new at old word own less few changed =
     (changed ∙ ap (λ w. bytes_after_write (word_bytes w) (at % 4) new) own)
     ∙ ap (λ j. bytes_after_write (bytes_of_words words) j new) (sym (split_place at))
 
--- the byte at any offset
+-- the byte at an offset is the one at its place in its word
 pub byte_at :
     (words : List ℕ) (at word : ℕ) → word ≡ get_or words (at / 4) word → at / 4 < length words
     → slice_get (bytes_of_words words) at ≡ slice_get (word_bytes word) (at % 4)
@@ -221,7 +222,7 @@ byte_at words at word own less =
 pub no_byte : (words : List ℕ) (at : ℕ) → length words ≤ at / 4 → slice_get (bytes_of_words words) at ≡ None
 no_byte words at past = slice_get_past (bytes_of_words words) at (omega (arith, words_len words))
 
--- one more word of a row
+-- the bytes of a row's words before word i, followed by those of word i, are the bytes of its words before word i + 1
 pub row_more :
     (words : List ℕ) (first i word : ℕ) → first ≤ i → i < length words → word ≡ get_or words i word
     → bytes_of_words (take (i - first) (drop first words)) ++ word_bytes word ≡ bytes_of_words (take (i + 1 - first) (drop first words))
@@ -236,7 +237,36 @@ row_more words first i word from less own =
     ∙ flat_map-append word_bytes (take (i - first) rest) (word ∷ [])
     ∙ ap (λ last. bytes_of_words (take (i - first) rest) ++ last) (append-nil (word_bytes word)))
 
--- a row is four words, or fewer at the end
+-- the words from one of zero on are a zero and the words from the next on
+drop_zero : (words : List ℕ) (i j word : ℕ) → i < length words → j ≡ i + 1 → word ≡ get_or words i word → word ≡ 0
+    → drop i words ≡ 0 ∷ drop j words
+drop_zero words i j word less next own none =
+    drop_more words i word less ∙ ap (λ w. w ∷ drop (i + 1) words) (sym own ∙ none) ∙ ap (λ k. 0 ∷ drop k words) (sym next)
+
+-- four words of which no bit is set are sixteen zero bytes
+pub blank_row :
+    (words : List ℕ) (at a b c d : ℕ) → at % 4 ≡ 0 → at / 4 + 4 ≤ length words → a ≡ get_or words (at / 4) a
+    → b ≡ get_or words (at / 4 + 1) b → c ≡ get_or words (at / 4 + 2) c → d ≡ get_or words (at / 4 + 3) d
+    → bit_or (bit_or (bit_or a b) c) d ≡ 0 → take 16 (drop at (bytes_of_words words)) ≡ replicate 16 0
+unfolding word_bytes
+blank_row words at a b c d even within own_a own_b own_c own_d none =
+    let i = at / 4 in
+    let start : at ≡ 4 * i = omega arith in
+    let none_d : d ≡ 0 = omega (arith, le_or_r (bit_or (bit_or a b) c) d) in
+    let none_c : c ≡ 0 = omega (arith, le_or_l (bit_or (bit_or a b) c) d, le_or_r (bit_or a b) c) in
+    let none_b : b ≡ 0 = omega (arith, le_or_l (bit_or (bit_or a b) c) d, le_or_l (bit_or a b) c, le_or_r a b) in
+    let none_a : a ≡ 0 = omega (arith, le_or_l (bit_or (bit_or a b) c) d, le_or_l (bit_or a b) c, le_or_l a b) in
+    let last : drop (i + 3) words ≡ 0 ∷ drop (i + 4) words = drop_zero words (i + 3) (i + 4) d (omega arith) (omega arith) own_d none_d in
+    let third : drop (i + 2) words ≡ 0 ∷ drop (i + 3) words = drop_zero words (i + 2) (i + 3) c (omega arith) (omega arith) own_c none_c in
+    let second : drop (i + 1) words ≡ 0 ∷ drop (i + 2) words = drop_zero words (i + 1) (i + 2) b (omega arith) (omega arith) own_b none_b in
+    let zeros : drop i words ≡ 0 ∷ 0 ∷ 0 ∷ 0 ∷ drop (i + 4) words =
+    drop_zero words i (i + 1) a (omega arith) (omega arith) own_a none_a
+    ∙ ap (λ rest. 0 ∷ rest) (second ∙ ap (λ rest. 0 ∷ rest) (third ∙ ap (λ rest. 0 ∷ rest) last)) in
+    ap (λ k. take 16 (drop k (bytes_of_words words))) start
+    ∙ ap (take 16) (drop_words words i)
+    ∙ ap (λ rest. take 16 (bytes_of_words rest)) zeros
+
+-- the bytes of four words, or of fewer at the end, are the sixteen bytes from their offset on, or fewer
 pub row_whole :
     (words : List ℕ) (at i : ℕ) → at % 4 ≡ 0 → i - at / 4 ≡ min 4 (length words - at / 4)
     → bytes_of_words (take (i - at / 4) (drop (at / 4) words)) ≡ take 16 (drop at (bytes_of_words words))

@@ -1,14 +1,16 @@
 //! Data of transfers as commands to a slave, without the lines of a cycle.
-ghost use Rattle.std.specs.Prelude.{◌≡◌, ◌%◌, IfSome};
+ghost use Rattle.std.specs.Prelude.{◌≡◌, ◌<◌, ◌%◌, IsTrue, IfSome};
 ghost use Rattle.vme_lanes.specs.Rows.{row_of, location_at};
+ghost use Rattle.vme_cycle.specs.Requests.{count_of, is_counted};
 ghost use Rattle.vme_memory.specs.Steps.{read_command, write_command, step};
 ghost use Rattle.vme_memory.specs.Steps as Steps;
 ghost use Rattle.vme_memory.specs.Access.{accessed};
+ghost use Rattle.vme_memory.specs.Data.{datum_command};
 
 use crate::board::ByteMemory;
 use crate::reply::Reply;
 use crate::word::placed_word;
-use vme_cycle::Modify;
+use vme_cycle::{Modify, Request};
 use vme_lanes::Location;
 
 /// The greatest number of bytes of a datum on four data lanes.
@@ -39,6 +41,39 @@ pub enum Access<'a> {
         n: u8,
         f: &'a Modify,
     },
+}
+
+impl<'a> Access<'a> {
+    /// Returns datum `i` of a request as an access, at the offset of its first byte.
+    pub fn of_datum(request: &'a Request, i: u16, at: u32) -> Access<'a>
+        requires counted { IsTrue (is_counted request.now) }
+        requires in_count { i < count_of request.now }
+        ensures { accessed result ≡ datum_command request.now i at }
+    {
+        match request {
+            Request::Read { n, .. } => Access::Read {
+                block: false,
+                at,
+                n: *n,
+            },
+            Request::BlockRead { n, .. } => Access::Read {
+                block: true,
+                at,
+                n: *n,
+            },
+            Request::Modify { n, f, .. } => Access::Modify { at, n: *n, f },
+            Request::Write { .. } => Access::Write {
+                block: false,
+                at,
+                bytes: request.datum(i).unwrap(),
+            },
+            Request::BlockWrite { .. } | Request::BlockFill { .. } => Access::Write {
+                block: true,
+                at,
+                bytes: request.datum(i).unwrap(),
+            },
+        }
+    }
 }
 
 impl ByteMemory {

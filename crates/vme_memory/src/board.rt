@@ -104,6 +104,16 @@ impl ByteMemory {
         self.storage.byte(offset)
     }
 
+    /// Returns `true` only if sixteen bytes begin at `offset`, a multiple of four, and all are zero.
+    /// It is faster than a look at `row`.
+    #[inline(always)]
+    pub fn is_blank_row(&self, offset: u32) -> bool
+        requires { offset % 4 ≡ 0 }
+        ensures { IsTrue result → take 16 (drop offset self.now.bytes) ≡ zeros 16 }
+    {
+        self.storage.is_blank_row(offset)
+    }
+
     /// Returns the sixteen bytes that begin at `offset`, or those up to the end. `offset` is a
     /// multiple of four.
     pub fn row(&self, offset: u32) -> Row
@@ -147,7 +157,7 @@ impl ByteMemory {
         }
     }
 
-    /// The reply to a cycle with a code of eight-byte data, in which BYTE(0-3) stands for all eight
+    /// The reply to a cycle with a code of eight-byte data, in which BYTE(0-3) selects all eight
     /// bytes.
     #[tactic(auto, using(crate::proofs::Places::quad_first))]
     fn wide_cycle(

@@ -7,7 +7,8 @@ ghost use Rattle.vme_memory.specs.Boards.{Board, bytes_after_write};
 ghost use Rattle.vme_memory.specs.Steps.{Command, command_of, step, cycle, LocalRead, LocalWrite, Read, Write, BlockRead, BlockWrite};
 ghost use Rattle.vme_memory.specs.Data.{datum_command, reply_len, datum_reply_len, has_form};
 
-/// States that a write leaves the new bytes at their place and every other byte unchanged.
+/// States that a write leaves the new bytes at their place, and every other byte and the number of
+/// bytes unchanged.
 pub fn bytes_are_overwritten()
     ensures same { (bytes new : List ℕ) (at : ℕ) → at + length new ≤ length bytes →
         slice_range (bytes_after_write bytes at new) at (at + length new) ≡ new }

@@ -79,6 +79,22 @@ impl Storage {
         Some(byte_in(*word, (offset % 4) as u8))
     }
 
+    /// Whether sixteen bytes begin at `offset` and all are zero. It tests them as four words.
+    #[inline(always)]
+    #[tactic(auto, using(crate::proofs::Words::words_len))]
+    pub(crate) fn is_blank_row(&self, offset: u32) -> bool
+        requires { offset % 4 ≡ 0 }
+        ensures { IsTrue result → take 16 (drop offset self.now) ≡ zeros 16 }
+    {
+        let first = (offset / 4) as usize;
+        if self.words.len() < first + 4 {
+            return false;
+        }
+        let (a, b) = (self.words[first], self.words[first + 1]);
+        let (c, d) = (self.words[first + 2], self.words[first + 3]);
+        a | b | c | d == 0
+    }
+
     /// The sixteen bytes that begin at `offset`, or those up to the end.
     #[tactic(auto, using(crate::proofs::Words::row_more, crate::proofs::Words::row_whole, crate::proofs::Words::word_len, crate::proofs::Words::words_len))]
     pub(crate) fn row(&self, offset: u32) -> Row

@@ -58,9 +58,12 @@ pub fn merge_across(here: u32, next: u32, place: u32, new: u32) -> (u32, u32)
     ensures { word_bytes result.0 ++ word_bytes result.1
         ≡ bytes_after_write (word_bytes here ++ word_bytes next) place (word_bytes new) }
 {
-    let turned = new.rotate_right(8 * place);
+    let rotated_word = new.rotate_right(8 * place);
     let mask = u32::MAX >> (8 * place);
-    (here & !mask | turned & mask, turned & !mask | next & mask)
+    (
+        here & !mask | rotated_word & mask,
+        rotated_word & !mask | next & mask,
+    )
 }
 
 /// Returns the four bytes of a word, the lowest address most significant.

@@ -16,7 +16,7 @@ use Rattle.vme_port.specs.Passes.{PassView, IsAtRest, seen_by, made_by}
 use Rattle.vme_port.specs.Calls.{Adds}
 use Rattle.vme_port.proofs.lemmas.Accounts.{own_all}
 
--- the first of the objects that are held
+-- the first of the objects that are held, or `other` if none is held
 abbrev first_home : {S : Type 0} → Home S → List (ℕ × Home S) → Home S
 first_home other [] = other
 first_home other (x ∷ xs) = x.1
@@ -80,7 +80,7 @@ module _ {S C R : Type 0} (step : S → C → S × R) (start : S) (k : ℕ) wher
     -- the seat after the put
     pub after_put : (es : List (Entry C R)) (m2 m3 : Me (Home S) (SeatView C R)) → m2.0 ≡ m1.0 → HasPut es m2 m3
         → m3 ≡ (view (account a.who (a.seen ++ t.others ++ es) (a.mine ++ es) ∷ []) false, [])
-    after_put es m2 m3 same reported = reported (account a.who (a.seen ++ t.others) a.mine) (same ∙ ap (λ m. m.0) t.after)
+    after_put es m2 m3 same outcome = outcome (account a.who (a.seen ++ t.others) a.mine) (same ∙ ap (λ m. m.0) t.after)
 
     -- the history that the take found is at least as long as what the account made
     made_within : length a.mine ≤ length (a.seen ++ t.others)
@@ -119,20 +119,20 @@ module _ {S C R : Type 0} (step : S → C → S × R) (start : S) (k : ℕ) wher
           let counted : p.home.count ≡ length found = ap (λ (h : Home S). h.count) (same_home rest.only m1 t p.home p.out) ∙ t.count in
           omega (arith, made_within rest.only m1 t, rest.counted, p.capacity)
 
-      module _ (es : List (Entry C R)) (m2 m3 : Me (Home S) (SeatView C R)) (same : m2.0 ≡ m1.0) (reported : HasPut es m2 m3) where
+      module _ (es : List (Entry C R)) (m2 m3 : Me (Home S) (SeatView C R)) (same : m2.0 ≡ m1.0) (outcome : HasPut es m2 m3) where
         -- after the put, the pass has seen the whole history and the new entries
         seen_after : seen_by m3.0.accounts ≡ found ++ es
-        seen_after = ap (λ m. seen_by m.0.accounts) (after_put rest.only m1 t es m2 m3 same reported)
+        seen_after = ap (λ m. seen_by m.0.accounts) (after_put rest.only m1 t es m2 m3 same outcome)
 
         -- after the put, the pass has made the new entries
         mine_after : made_by m3.0.accounts ≡ made_by m0.0.accounts ++ es
-        mine_after = ap (λ m. made_by m.0.accounts) (after_put rest.only m1 t es m2 m3 same reported) ∙ ap (λ m. made_by m.0.accounts ++ es) (sym rest.alone)
+        mine_after = ap (λ m. made_by m.0.accounts) (after_put rest.only m1 t es m2 m3 same outcome) ∙ ap (λ m. made_by m.0.accounts ++ es) (sym rest.alone)
 
         -- after the put, the pass is at rest
         rests_after : IsAtRest m3 who (made + length es)
         rests_after = record {
           only = account rest.only.who (found ++ es) (rest.only.mine ++ es);
-          alone = after_put rest.only m1 t es m2 m3 same reported;
+          alone = after_put rest.only m1 t es m2 m3 same outcome;
           named = rest.named;
           counted = omega (arith, length-append rest.only.mine es, rest.counted);
         }
@@ -154,39 +154,42 @@ module _ {S C R : Type 0} (step : S → C → S × R) (start : S) (k : ℕ) wher
           made = refl;
         }
 
-      module _ (m2 m3 : Me (Home S) (SeatView C R)) (full : IsFull 0 m1 m2) (reported : HasPut [] m2 m3) where
+      module _ (m2 m3 : Me (Home S) (SeatView C R)) (full : IsFull 0 m1 m2) (outcome : HasPut [] m2 m3) where
+        -- a full history leaves the view of the seat unchanged
         same_full : m2.0 ≡ m1.0
         same_full = ap (λ m. m.0) full.same
 
+        -- after a put without an entry, the pass has seen the whole history
         seen_full : seen_by m3.0.accounts ≡ found
-        seen_full = seen_after [] m2 m3 same_full reported ∙ append-nil found
+        seen_full = seen_after [] m2 m3 same_full outcome ∙ append-nil found
 
         -- after a put without an entry, the pass is at rest
         pub rests_full : IsAtRest m3 who made
-        rests_full = subst (IsAtRest m3 who) (omega arith) (rests_after [] m2 m3 same_full reported)
+        rests_full = subst (IsAtRest m3 who) (omega arith) (rests_after [] m2 m3 same_full outcome)
 
         -- after a put without an entry, the pass has seen the whole history and added nothing
         pub adds_none : (port port' : TableId) → port' ≡ port → Adds step start [] (pass_view port who made m0) (pass_view port' who made m3)
         adds_none port port' same_port =
             let legal : IsLegal step start (found ++ []) = subst (IsLegal step start) (sym (append-nil found)) (found_legal rest.only m1 t) in
             let after : Adds step start [] (pass_view port who made m0) (pass_view port' who (made + 0) m3) =
-            adds_after [] m2 m3 same_full reported port port' same_port legal (All-nil (λ (e : Entry C R). e.who ≡ who)) in
+            adds_after [] m2 m3 same_full outcome port port' same_port legal (All-nil (λ (e : Entry C R). e.who ≡ who)) in
             subst (λ n. Adds step start [] (pass_view port who made m0) (pass_view port' who n m3)) (omega arith) after
 
-        -- if the call was `Spent`, the history has 2^64 - 1 entries
+        -- after a call that was `Spent`, the pass has seen a history of 2^64 - 1 entries
         pub is_full : length (seen_by m3.0.accounts) ≡ 2 ^ 64 - 1
         is_full = ap length seen_full ∙ sym t.count ∙ ap (λ (h : Home S). h.count) (sym (same_home rest.only m1 t full.home full.out)) ∙ full.last
 
-      module _ (cmd : C) (reply : R) (m2 m3 : Me (Home S) (SeatView C R)) (p : HasPerformed 0 step cmd reply m1 m2) (reported : HasPut (entry who cmd reply ∷ []) m2 m3) where
+      module _ (cmd : C) (reply : R) (m2 m3 : Me (Home S) (SeatView C R)) (p : HasPerformed 0 step cmd reply m1 m2) (outcome : HasPut (entry who cmd reply ∷ []) m2 m3) where
         abbrev e : Entry C R
         e = entry who cmd reply
 
+        -- the command leaves the view of the seat unchanged
         same_one : m2.0 ≡ m1.0
         same_one = ap (λ m. m.0) p.after
 
         -- after a call with one entry, the pass is at rest
         pub rests_one : IsAtRest m3 who (made + 1)
-        rests_one = rests_after (e ∷ []) m2 m3 same_one reported
+        rests_one = rests_after (e ∷ []) m2 m3 same_one outcome
 
         -- the history with the new entry is legal
         legal_one : IsLegal step start (found ++ e ∷ [])
@@ -197,4 +200,4 @@ module _ {S C R : Type 0} (step : S → C → S × R) (start : S) (k : ℕ) wher
         -- after a call with one entry, the pass has added it to the whole history
         pub adds_one : (port port' : TableId) → port' ≡ port → Adds step start (e ∷ []) (pass_view port who made m0) (pass_view port' who (made + 1) m3)
         adds_one port port' same_port =
-            adds_after (e ∷ []) m2 m3 same_one reported port port' same_port legal_one (All-cons (λ (e : Entry C R). e.who ≡ who) e [] refl (All-nil (λ (e : Entry C R). e.who ≡ who)))
+            adds_after (e ∷ []) m2 m3 same_one outcome port port' same_port legal_one (All-cons (λ (e : Entry C R). e.who ≡ who) e [] refl (All-nil (λ (e : Entry C R). e.who ≡ who)))

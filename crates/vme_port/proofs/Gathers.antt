@@ -9,7 +9,7 @@ use Rattle.vme_port.specs.Steps.{joint_view}
 use Rattle.vme_port.specs.Passes.{PassView, account_of, IsCounted}
 
 module _ {S C R : Type 0} where
-  -- the seat has the accounts of all passes that are not left
+  -- the seat has the accounts of all passes that are no longer in `left`
   pub record IsGathered (all left : List (PassView C R)) (m : Me (Home S) (SeatView C R)) : Type 0 where
     pub done : List (PassView C R)
     pub split : all ≡ left ++ done

@@ -26,7 +26,7 @@ word_set [] new one = absurd (omega arith)
 word_set (w ∷ words) new one = refl
 
 module _ {C R : Type 0} where
-  -- a view that holds the object stands for at least one pass
+  -- a view that holds the object represents at least one pass
   pub out_weighs : (v : SeatView C R) (h : List (Entry C R)) → ((v.out ≡ true) → (a : Account C R) × (v.accounts ≡ a ∷ []) × (a.seen ≡ h))
       → (b : Bool) → v.out ≡ b → cond b 1 0 ≤ weight v
   out_weighs v h one true is = let accounts = (one is).1 in omega (arith, ap length accounts)
@@ -38,7 +38,7 @@ module _ {C R : Type 0} where
       let one : ◌≡◌ {A = ℕ} (cond u.out 1 0) 1 = ap (λ (b : Bool). cond b 1 0) out in
       omega (arith, sum_at (λ (v : SeatView C R). cond v.out 1 0) views j u at)
 
-  -- the account of any view has a number below k
+  -- the account of a view with one account has a number below k
   pub who_below : (k : ℕ) (views : List (SeatView C R)) (id : ℕ) (a : Account C R) (out : Bool)
       → ((who : ℕ) → sum_by (names who) views ≡ cond (ltb who k) 1 0) → get_elem? views id ≡ some (view (a ∷ []) out) → a.who < k
   who_below k views id a out shared at =
@@ -82,8 +82,8 @@ module _ {S C R : Type 0} (step : S → C → S × R) (start : S) (k : ℕ) wher
       let seen : (a.seen ++ others) ≡ r.history = sym is in
       let fits' : IsConsistent r.history (account a.who (a.seen ++ others) a.mine) = record {
         begins = ([], sym seen ∙ sym (append-nil (a.seen ++ others)));
-        sound = ap (own a.who) seen ∙ fits.whole;
-        whole = fits.whole;
+        sound = ap (own a.who) seen ∙ fits.complete;
+        complete = fits.complete;
       } in record {
         history = r.history;
         legal = r.legal;
@@ -123,9 +123,9 @@ module _ {S C R : Type 0} (step : S → C → S × R) (start : S) (k : ℕ) wher
       → Allows Rule slots id (view (a ∷ []) false, []) 0 (λ x. either (eqb x 0) new x) (take_effect step opened (table_step slots 0 0 new none) (view (a ∷ []) false, []))
   tries_alone opened opens slots id new a some_new s r wide at fits64 =
       let me : Me (Home S) (SeatView C R) = (view (a ∷ []) false, []) in
-      let reported = take_effect step opened (table_step slots 0 0 new none) me (slice_index s.words 0) in
+      let outcome = take_effect step opened (table_step slots 0 0 new none) me (slice_index s.words 0) in
       exchanged (slice_index s.words 0) 0 new
-      (λ n. (w : SeatView C R) × (act : Act (Home S)) × Valid s.homes [] act × Rule (stepped s 0 n id [] w act) × reported (w, carried_after [] act))
+      (λ n. (w : SeatView C R) × (act : Act (Home S)) × Valid s.homes [] act × Rule (stepped s 0 n id [] w act) × outcome (w, carried_after [] act))
       (λ hit. elim r.place [
         | inl home ↦
             let fits : IsConsistent r.history a = r.each id (view (a ∷ []) false) at 0 a (omega arith) in

@@ -11,7 +11,7 @@ use Rattle.vme_object.specs.declared.history.Entry.{Entry}
 use Rattle.vme_port.specs.declared.rule.Account.{Account}
 use Rattle.vme_port.specs.declared.rule.SeatView.{SeatView}
 use Rattle.vme_port.specs.declared.home.Home.{Home}
-use Rattle.vme_port.specs.Views.{account, view, fresh_accounts, newcomer, StandsFor, weight, names, holders}
+use Rattle.vme_port.specs.Views.{account, view, fresh_accounts, opening_view, Represents, weight, names, holders}
 use Rattle.vme_port.specs.Rule.{IsConsistent, Kept}
 use Rattle.vme_port.specs.Steps.{all_but_first, first_alone, joint_view, empty_view}
 use Rattle.vme_port.proofs.lemmas.Totals.{sum_set}
@@ -22,13 +22,13 @@ module _ {S C R : Type 0} (step : S → C → S × R) (start : S) (k : ℕ) wher
   Rule = Kept step start k
 
   -- the rule holds for a new port
-  pub opens : (home : Home S) → home.object ≡ start → home.count ≡ 0 → Rule (opening (0 ∷ []) (home ∷ []) (newcomer k))
+  pub opens : (home : Home S) → home.object ≡ start → home.count ≡ 0 → Rule (opening (0 ∷ []) (home ∷ []) (opening_view k))
   opens home object count = record {
     history = [];
     legal = tt;
     one_word = refl;
     each = elim [
-      | zero ↦ λ v at. subst (λ (v : SeatView C R). All (IsConsistent []) v.accounts) (some-injective (newcomer k) v at) (fresh_fits C R 0 k)
+      | zero ↦ λ v at. subst (λ (v : SeatView C R). All (IsConsistent []) v.accounts) (some-injective (opening_view k) v at) (fresh_fits C R 0 k)
       | suc j ↦ λ v at. absurd (some-ne-none v (sym at))
     ];
     shared = λ who. let shares = fresh_shared C R k who (ltb who k) refl in omega arith;
@@ -120,9 +120,9 @@ module _ {S C R : Type 0} (step : S → C → S × R) (start : S) (k : ℕ) wher
       ])
 
 module _ {S C R : Type 0} where
-  -- a split of a seat that stands for passes: one seat keeps the later accounts, and one has the first account
-  pub dealt : (k who : ℕ) (m : Me (Home S) (SeatView C R)) → StandsFor k who m → who < k
-      → (m.0.out ≡ false) × StandsFor k (who + 1) (all_but_first m.0, m.1) × (first_alone m.0 ≡ view (account who [] [] ∷ []) false)
+  -- a split of a seat that represents passes: one seat keeps the later accounts, and one has the first account
+  pub dealt : (k who : ℕ) (m : Me (Home S) (SeatView C R)) → Represents k who m → who < k
+      → (m.0.out ≡ false) × Represents k (who + 1) (all_but_first m.0, m.1) × (first_alone m.0 ≡ view (account who [] [] ∷ []) false)
   dealt k who m (zero, sum, is) below = absurd (omega arith)
   dealt k who m (suc n, sum, is) below =
       let next : fresh_accounts {C = C} {R = R} (suc who) n ≡ fresh_accounts (who + 1) n = ap (λ i. fresh_accounts i n) (omega arith) in (
@@ -131,6 +131,6 @@ module _ {S C R : Type 0} where
         ap (λ m. first_alone m.0) is,
       )
 
-  -- a seat that stands for all passes stands for those from number 0 on
-  pub stands_first : (k : ℕ) (m : Me (Home S) (SeatView C R)) → m ≡ (newcomer k, []) → StandsFor k 0 m
-  stands_first k m is = (k, omega arith, is)
+  -- a seat that represents all passes represents those from number 0 on
+  pub represents_first : (k : ℕ) (m : Me (Home S) (SeatView C R)) → m ≡ (opening_view k, []) → Represents k 0 m
+  represents_first k m is = (k, omega arith, is)

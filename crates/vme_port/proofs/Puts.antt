@@ -37,7 +37,7 @@ module _ {S C R : Type 0} (step : S → C → S × R) (start : S) (k : ℕ) wher
   holder_fits h es a whose seen f = record {
     begins = ([], ap (λ l. l ++ es) (sym seen) ∙ sym (append-nil (a.seen ++ es)));
     sound = own-append a.who a.seen es ∙ ap (λ l. l ++ own a.who es) f.sound ∙ ap (λ l. a.mine ++ l) (own_all a.who es whose);
-    whole = own-append a.who h es ∙ ap (λ l. l ++ own a.who es) f.whole ∙ ap (λ l. a.mine ++ l) (own_all a.who es whose);
+    complete = own-append a.who h es ∙ ap (λ l. l ++ own a.who es) f.complete ∙ ap (λ l. a.mine ++ l) (own_all a.who es whose);
   }
 
   -- the rule holds in the state after a put

@@ -23,7 +23,7 @@ module _ {S C R : Type 0} (step : S → C → S × R) (start : S) (k : ℕ) wher
   abbrev Rule : State (Home S) (SeatView C R) → Type 0
   Rule = Kept step start k
 
-  -- if a seat stands for k passes and does not hold the object, the object is in its slot
+  -- if a seat represents k passes and does not hold the object, the object is in its slot
   at_home : (s : State (Home S) (SeatView C R)) (id : ℕ) (accounts : List (Account C R)) (r : Rule s) → get_elem? s.views id ≡ some (view accounts false)
       → k ≤ length accounts → AtHome step start r.history s ⊎ Away step start r.history s → AtHome step start r.history s
   at_home s id accounts r at enough (inl home) = home
@@ -32,7 +32,7 @@ module _ {S C R : Type 0} (step : S → C → S × R) (start : S) (k : ℕ) wher
       let over = sum_over (λ (v : SeatView C R). cond v.out 1 0) weight s.views id (view accounts false) less at in
       absurd (omega (arith, away.one_out, r.weights))
 
-  -- a seat that stands for k passes has one account for each number below k
+  -- a seat that represents k passes has one account for each number below k
   each_named : (s : State (Home S) (SeatView C R)) (id : ℕ) (accounts : List (Account C R)) (r : Rule s) → get_elem? s.views id ≡ some (view accounts false)
       → k ≤ length accounts → (who : ℕ) → who < k → names_among who accounts ≡ 1
   each_named s id accounts r at enough who below =
@@ -67,32 +67,32 @@ module _ {S C R : Type 0} (step : S → C → S × R) (start : S) (k : ℕ) wher
   last id m words homes home final at idle enough =
       let s : State (Home S) (SeatView C R) = final.0 in
       let there : get_elem? s.views id ≡ some (view m.0.accounts false) = final.1.1 ∙ ap (λ m. some m.0) idle in
-      let reported = closes s id m.0.accounts final.1.0 there enough in
-      let same : reported.0 ≡ home = some-injective reported.0 home (sym (final.4 0 reported.0 (ap (λ hs. get_elem? hs 0) reported.1)) ∙ at) in
-      subst (λ (home : Home S). Closes step start k m.0.accounts home.object home.count) same reported.2
+      let outcome = closes s id m.0.accounts final.1.0 there enough in
+      let same : outcome.0 ≡ home = some-injective outcome.0 home (sym (final.4 0 outcome.0 (ap (λ hs. get_elem? hs 0) outcome.1)) ∙ at) in
+      subst (λ (home : Home S). Closes step start k m.0.accounts home.object home.count) same outcome.2
 
   -- passes settle if their accounts close
   pub settled : (passes : List (PassView C R)) (object : S) (n : ℕ) → Closes step start k (map account_of passes) object n → All IsCounted passes
       → Settles step start k passes object n
-  settled passes object n reported counted =
-      let h : List (Entry C R) = reported.history in
-      let fits = fits_passes h passes reported.fits in
+  settled passes object n outcome counted =
+      let h : List (Entry C R) = outcome.history in
+      let fits = fits_passes h passes outcome.fits in
       let mine : All (λ p. own p.who h ≡ p.mine) passes =
-      All-weaker (λ (p : PassView C R). IsConsistent h (account_of p)) (λ (p : PassView C R). own p.who h ≡ p.mine) (λ p fit. fit.whole) passes fits in record {
+      All-weaker (λ (p : PassView C R). IsConsistent h (account_of p)) (λ (p : PassView C R). own p.who h ≡ p.mine) (λ p fit. fit.complete) passes fits in record {
         history = h;
-        legal = reported.legal;
-        replayed = reported.replayed;
-        counted = reported.counted;
-        known = reported.known;
+        legal = outcome.legal;
+        replayed = outcome.replayed;
+        counted = outcome.counted;
+        known = outcome.known;
         summed = omega (
           arith,
-          reported.counted,
+          outcome.counted,
           mine_owned h passes mine,
-          owned_once k (map account_of passes) h reported.each_who reported.known,
+          owned_once k (map account_of passes) h outcome.each_who outcome.known,
           sum_same (λ (p : PassView C R). length p.mine) (λ (p : PassView C R). p.made) passes counted,
         );
-        all = sym (length-map passes account_of) ∙ reported.all;
-        each_who = λ who below. named_passes who passes ∙ reported.each_who who below;
+        all = sym (length-map passes account_of) ∙ outcome.all;
+        each_who = λ who below. named_passes who passes ∙ outcome.each_who who below;
         seen = All-weaker (λ (p : PassView C R). IsConsistent h (account_of p)) (λ (p : PassView C R). IsPrefix p.seen h) (λ p fit. fit.begins) passes fits;
         sound = All-weaker (λ (p : PassView C R). IsConsistent h (account_of p)) (λ (p : PassView C R). own p.who p.seen ≡ p.mine) (λ p fit. fit.sound) passes fits;
         mine = mine;

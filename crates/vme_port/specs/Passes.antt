@@ -27,7 +27,7 @@ abbrev pub made_by : {C R : Type 0} → List (Account C R) → List (Entry C R)
 made_by [] = []
 made_by (a ∷ rest) = a.mine
 
--- between calls, a pass stands for one account, has its number, counts its entries, and does not hold the object
+-- between calls, a pass represents one account, has its number, counts its entries, and does not hold the object
 pub record IsAtRest {S C R : Type 0} (me : Me (Home S) (SeatView C R)) (who made : ℕ) : Type 0 where
   pub only : Account C R
   pub alone : me ≡ (view (only ∷ []) false, [])

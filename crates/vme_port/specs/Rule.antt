@@ -15,7 +15,7 @@ use Rattle.vme_port.specs.Views.{weight, names, holders}
 pub record IsConsistent {C R : Type 0} (h : List (Entry C R)) (a : Account C R) : Type 0 where
   pub begins : IsPrefix a.seen h
   pub sound : own a.who a.seen ≡ a.mine
-  pub whole : own a.who h ≡ a.mine
+  pub complete : own a.who h ≡ a.mine
 
 module _ {S C R : Type 0} (step : S → C → S × R) (start : S) where
   -- the object is in its slot, is the replay of the history, and counts its entries
@@ -27,7 +27,7 @@ module _ {S C R : Type 0} (step : S → C → S × R) (start : S) where
     pub count : home.count ≡ length h
     pub none_out : holders s.views ≡ 0
 
-  -- exactly one view holds the object; it stands for one pass, which has seen the whole history
+  -- exactly one view holds the object; it represents one pass, which has seen the whole history
   pub record Away (h : List (Entry C R)) (s : State (Home S) (SeatView C R)) : Type 0 where
     pub taken : slice_index s.words 0 ≢ 0
     pub gone : s.homes ≡ none ∷ []

@@ -1,4 +1,4 @@
--- Defines what a closed port guarantees about its passes, and where an entry stands in the history.
+-- Defines what a closed port guarantees about its passes, and the place of an entry in the history.
 use Rattle.std.specs.Prelude.{ℕ, ◌≡◌, ◌<◌, ◌==◌, List, ◌∷◌, ◌++◌, length, All}
 use Rattle.std.specs.List.{sum_by, count_by}
 use Rattle.vme_object.specs.declared.history.Entry.{Entry}
@@ -37,9 +37,9 @@ module _ {S C R : Type 0} (step : S → C → S × R) (start : S) where
     pub mine : All (λ p. own p.who history ≡ p.mine) passes
     pub made : All IsCounted passes
 
-  -- an entry has its place in a history: behind all that its caller had seen, after exactly the entries `mine` of its
+  -- an entry has its place in a history: after all that its caller had seen, and after exactly the entries `mine` of its
   -- caller, with the reply of the step there
-  pub record StandsIn (history seen mine : List (Entry C R)) (e : Entry C R) : Type 0 where
+  pub record HasPlaceIn (history seen mine : List (Entry C R)) (e : Entry C R) : Type 0 where
     pub before : List (Entry C R)
     pub after : List (Entry C R)
     pub place : history ≡ before ++ e ∷ after

@@ -58,7 +58,7 @@ module _ {S C R : Type 0} (step : S → C → S × R) (opened : S → ℕ → Ty
   abbrev pub take_effect : Step (Home S) → Me (Home S) (SeatView C R) → ℕ → Me (Home S) (SeatView C R) → Type 0
   take_effect st m n m' = (a : Account C R) → m ≡ (view (a ∷ []) false, []) → (n ≡ 0 → HasTaken a m') × (n ≢ 0 → HasLost m m')
 
-  -- a take from a seat that stands for one pass, by whether it won
+  -- a take from a seat that represents one pass, by whether it won
   abbrev pub HasTried : Me (Home S) (SeatView C R) → Bool → Me (Home S) (SeatView C R) → Type 0
   HasTried m won m' = (a : Account C R) → m ≡ (view (a ∷ []) false, []) → MatchBool won (HasTaken a m') (HasLost m m')
 
@@ -84,7 +84,7 @@ module _ {S C R : Type 0} where
   abbrev pub put_effect : List (Entry C R) → Step (Home S) → Me (Home S) (SeatView C R) → ℕ → Me (Home S) (SeatView C R) → Type 0
   put_effect es st m n m' = HasPut es m m'
 
-  -- between calls, a seat stands for one pass and does not hold the object
+  -- between calls, a seat represents one pass and does not hold the object
   abbrev pub IsIdle : Me (Home S) (SeatView C R) → Type 0
   IsIdle m = (a : Account C R) × (m ≡ (view (a ∷ []) false, []))
 

@@ -12,11 +12,11 @@ module _ {C R : Type 0} where
   abbrev pub account : ℕ → List (Entry C R) → List (Entry C R) → Account C R
   account who seen mine = record { who = who; seen = seen; mine = mine }
 
-  -- a view: the accounts that a seat stands for, and whether the seat holds the object
+  -- a view: the accounts that a seat represents, and whether the seat holds the object
   abbrev pub view : List (Account C R) → Bool → SeatView C R
   view accounts out = record { accounts = accounts; out = out }
 
-  -- the number of passes that a view stands for
+  -- the number of passes that a view represents
   abbrev pub weight : SeatView C R → ℕ
   weight v = length v.accounts
 
@@ -37,10 +37,10 @@ module _ {C R : Type 0} where
   fresh_accounts first zero = []
   fresh_accounts first (suc n) = account first [] [] ∷ fresh_accounts (suc first) n
 
-  -- the view of the first seat of a port with k passes, which stands for all of them
-  abbrev pub newcomer : ℕ → SeatView C R
-  newcomer k = view (fresh_accounts 0 k) false
+  -- the view of the first seat of a port with k passes, which represents all of them
+  abbrev pub opening_view : ℕ → SeatView C R
+  opening_view k = view (fresh_accounts 0 k) false
 
-  -- a seat stands for the passes numbered from `who` up to k - 1, which have seen nothing
-  abbrev pub StandsFor : {S : Type 0} → ℕ → ℕ → Me (Home S) (SeatView C R) → Type 0
-  StandsFor k who m = (n : ℕ) × (who + n ≡ k) × (m ≡ (view (fresh_accounts who n) false, []))
+  -- a seat represents the passes numbered from `who` up to k - 1, which have seen nothing
+  abbrev pub Represents : {S : Type 0} → ℕ → ℕ → Me (Home S) (SeatView C R) → Type 0
+  Represents k who m = (n : ℕ) × (who + n ≡ k) × (m ≡ (view (fresh_accounts who n) false, []))

@@ -111,7 +111,7 @@ impl<O: Object> Port<O> {
     }
 
     /// Performs one operation on the object as soon as no other pass holds it, and returns the
-    /// reply. The new entry has the command that the operation stands for (`A.command`). It waits
+    /// reply. The new entry has the command that the operation represents (`A.command`). It waits
     /// as `call` does.
     ///
     /// # Errors

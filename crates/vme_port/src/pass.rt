@@ -43,7 +43,7 @@ impl<O: Object> Pass<O> {
         self.made
     }
 
-    /// Returns the seat of the pass, which stands for this pass alone.
+    /// Returns the seat of the pass, which represents this pass alone.
     pub(crate) fn into_seat(self) -> Seat<Home<O>, SeatView<O::Cmd, O::Reply>>
         ensures port { result.table_id ≡ self.port }
         ensures alone { result.me ≡ (view (account_of self ∷ []) false, []) }

@@ -1,7 +1,7 @@
 ghost use Rattle.std.specs.Prelude.{◌≡◌, ◌+◌, ◌<◌, ◌≤◌, ◌⊎◌, [], vec_len, vec_capacity, All, IfOk};
 ghost use mathlib.Core.Logic.{◌↔◌};
 ghost use Rattle.vme_object.specs.Each.{Each};
-ghost use Rattle.vme_port.specs.Views.{StandsFor};
+ghost use Rattle.vme_port.specs.Views.{Represents};
 ghost use Rattle.vme_port.specs.Passes.{IsUnused};
 
 use crate::fault::PortFault;
@@ -29,7 +29,7 @@ pub struct Port<O: Object> {
     ghost some: { 0 < passes },
 }
 
-/// A new port, together with one seat that stands for all its passes.
+/// A new port, together with one seat that represents all its passes.
 struct Opened<O: Object> {
     port: Port<O>,
     seat: Seat<Home<O>, SeatView<O::Cmd, O::Reply>>,
@@ -68,7 +68,7 @@ impl<O: Object> Port<O> {
             return Err(PortFault::OutOfMemory);
         };
         let Opened { port, seat } = opened;
-        port.deal(seat, &mut passes);
+        port.make_passes(seat, &mut passes);
         Ok((port, passes))
     }
 
@@ -78,7 +78,7 @@ impl<O: Object> Port<O> {
         self.table.shared.peek(0) == WANTED
     }
 
-    /// Opens the table of a port, and returns the port with one seat that stands for all its
+    /// Opens the table of a port, and returns the port with one seat that represents all its
     /// passes.
     fn open(alloc: Global, object: O, passes: usize) -> Result<Opened<O>, AllocError>
     where
@@ -87,7 +87,7 @@ impl<O: Object> Port<O> {
         ensures opening { IfOk result (λ o. opening o.port ≡ object) }
         ensures passes { IfOk result (λ o. passes_of o.port ≡ passes) }
         ensures seat { IfOk result (λ o. o.seat.table_id ≡ port_id o.port) }
-        ensures all { IfOk result (λ o. StandsFor passes 0 o.seat.me) }
+        ensures all { IfOk result (λ o. Represents passes 0 o.seat.me) }
     {
         let key = Opening {
             start: Snapshot::of(&object),
@@ -105,12 +105,16 @@ impl<O: Object> Port<O> {
     }
 
     /// Splits the seat's first account off, and returns a pass for it.
-    fn deal_one(&self, seat: &mut Seat<Home<O>, SeatView<O::Cmd, O::Reply>>, who: usize) -> Pass<O>
+    fn split_pass(
+        &self,
+        seat: &mut Seat<Home<O>, SeatView<O::Cmd, O::Reply>>,
+        who: usize,
+    ) -> Pass<O>
         requires port { seat.old.table_id ≡ port_id self.now }
         requires below { who < passes_of self.now }
-        requires all { StandsFor (passes_of self.now) who seat.old.me }
+        requires all { Represents (passes_of self.now) who seat.old.me }
         ensures port { seat.new.table_id ≡ seat.old.table_id }
-        ensures all { StandsFor (passes_of self.now) (who + 1) seat.new.me }
+        ensures all { Represents (passes_of self.now) (who + 1) seat.new.me }
         ensures unused { IsUnused (port_id self.now) who result }
     {
         let seat = self.table.shared.split_seat::<SplitStep>(seat);
@@ -118,16 +122,20 @@ impl<O: Object> Port<O> {
     }
 
     /// Makes a pass for each account of the seat.
-    fn deal(&self, mut seat: Seat<Home<O>, SeatView<O::Cmd, O::Reply>>, passes: &mut Vec<Pass<O>>)
+    fn make_passes(
+        &self,
+        mut seat: Seat<Home<O>, SeatView<O::Cmd, O::Reply>>,
+        passes: &mut Vec<Pass<O>>,
+    )
         requires port { seat.table_id ≡ port_id self.now }
-        requires all { StandsFor (passes_of self.now) 0 seat.me }
+        requires all { Represents (passes_of self.now) 0 seat.me }
         requires empty { passes.old.items ≡ [] }
         requires capacity { passes_of self.now ≤ vec_capacity passes.old }
         ensures count { vec_len passes.new ≡ passes_of self.now }
         ensures unused { Each (λ i p. IsUnused (port_id self.now) i p) passes.new.items }
     {
         for who in 0..self.passes {
-            let pass = self.deal_one(&mut seat, who);
+            let pass = self.split_pass(&mut seat, who);
             passes.push_reserved(pass);
         }
     }

@@ -24,9 +24,9 @@ pub struct Account<C, R> {
     pub mine: LinkedList<Entry<C, R>>,
 }
 
-/// The knowledge of a seat: the accounts that it stands for, and whether it holds the object.
+/// The knowledge of a seat: the accounts that it represents, and whether it holds the object.
 pub struct SeatView<C, R> {
-    /// The accounts of the passes that the seat stands for.
+    /// The accounts of the passes that the seat represents.
     pub accounts: LinkedList<Account<C, R>>,
     /// Whether the seat holds the object.
     pub out: bool,
@@ -38,12 +38,12 @@ pub struct PortRule<O> {
 }
 
 impl<O: Object> TableRule<Home<O>, SeatView<O::Cmd, O::Reply>, Opening<O>> for PortRule<O> {
-    ghost use Rattle.vme_port.specs.Views.{newcomer};
+    ghost use Rattle.vme_port.specs.Views.{opening_view};
     ghost use Rattle.vme_port.specs.Rule.{Kept};
 
     ghost holds = { λ k. Kept O.step k.start.value k.passes };
 
-    ghost first = { λ k. newcomer k.passes };
+    ghost first = { λ k. opening_view k.passes };
 }
 
 /// What a take states about the opening of its port. The proof of each call chooses it.

@@ -24,7 +24,7 @@ impl<O: Object> Port<O> {
         requires idle { IsIdle seat.old.me }
         requires opened { W.opened (opening self.now) (passes_of self.now) }
         ensures port { seat.new.table_id ≡ seat.old.table_id }
-        ensures reported { HasTried O.step W.opened seat.old.me result seat.new.me }
+        ensures outcome { HasTried O.step W.opened seat.old.me result seat.new.me }
     {
         self.table
             .shared
@@ -61,7 +61,7 @@ impl<O: Object> Port<O> {
         requires port { seat.old.table_id ≡ port_id self.now }
         requires out { MayPut O.step (opening self.now) W.entries seat.old.me }
         ensures port { seat.new.table_id ≡ seat.old.table_id }
-        ensures reported { HasPut W.entries seat.old.me seat.new.me }
+        ensures outcome { HasPut W.entries seat.old.me seat.new.me }
     {
         if self.table.shared.swap::<PutStep<O, W>>(seat, 0, FREE) == WANTED {
             self.wake();
@@ -82,7 +82,7 @@ impl<O: Object> Port<O> {
         requires port { seat.old.table_id ≡ port_id self.now }
         requires out { MayPut O.step (opening self.now) [] seat.old.me }
         ensures port { seat.new.table_id ≡ seat.old.table_id }
-        ensures reported { HasPut [] seat.old.me seat.new.me }
+        ensures outcome { HasPut [] seat.old.me seat.new.me }
     {
         self.put_entries::<Brand>(seat);
     }
@@ -97,10 +97,10 @@ impl<O: Object> Port<O> {
         reply: &O::Reply,
     )
         requires port { seat.old.table_id ≡ port_id self.now }
-        requires reported { W.entries ≡ entry who (A.command asked.now) reply.now ∷ [] }
+        requires outcome { W.entries ≡ entry who (A.command asked.now) reply.now ∷ [] }
         requires out { MayPut O.step (opening self.now) (entry who (A.command asked.now) reply.now ∷ []) seat.old.me }
         ensures port { seat.new.table_id ≡ seat.old.table_id }
-        ensures reported { HasPut (entry who (A.command asked.now) reply.now ∷ []) seat.old.me seat.new.me }
+        ensures outcome { HasPut (entry who (A.command asked.now) reply.now ∷ []) seat.old.me seat.new.me }
     {
         self.put_entries::<W>(seat);
     }

@@ -42,7 +42,7 @@ impl<O: Object> Port<O> {
         Ok(self.close(seat))
     }
 
-    /// Returns one seat that stands for all these passes, in their order.
+    /// Returns one seat that represents all these passes, in their order.
     fn gather(&self, mut passes: Vec<Pass<O>>) -> Seat<Home<O>, SeatView<O::Cmd, O::Reply>>
         requires port { All (IsPassOf self.now) passes.items }
         requires some { 0 < vec_len passes }
@@ -62,7 +62,7 @@ impl<O: Object> Port<O> {
         all
     }
 
-    /// Closes the port with a seat that stands for all its passes.
+    /// Closes the port with a seat that represents all its passes.
     fn close(self, seat: Seat<Home<O>, SeatView<O::Cmd, O::Reply>>) -> (O, u64)
         requires port { seat.table_id ≡ port_id self }
         requires idle { seat.me ≡ (view seat.me.0.accounts false, []) }

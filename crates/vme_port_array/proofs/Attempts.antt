@@ -104,14 +104,14 @@ module _ {S C R : Type 0} (step : S → C → S × R) (starts : List S) (k i : �
     pub shared_lost : HasLost step Opened m0 m1 → 2 ≤ k
     shared_lost lost = omega (arith, lost.opens.1, lost.shared)
 
-    module _ (t : HasTaken step Opened i rest.only m1) (es : List (Entry (Indexed C) R)) (m2 m3 : Me (Home S) (ArrayView (Indexed C) R)) (same : m2.0 ≡ m1.0) (reported : HasPut step Opened i es m2 m3) where
+    module _ (t : HasTaken step Opened i rest.only m1) (es : List (Entry (Indexed C) R)) (m2 m3 : Me (Home S) (ArrayView (Indexed C) R)) (same : m2.0 ≡ m1.0) (outcome : HasPut step Opened i es m2 m3) where
       -- the history that the take found
       abbrev found : List (Entry (Indexed C) R)
       found = rest.only.seen ++ t.others
 
       -- the effect of the put
       abbrev is_put : IsPut step Opened i es (account rest.only.who found rest.only.mine) m3
-      is_put = reported (account rest.only.who found rest.only.mine) (same ∙ ap (λ m. m.0) t.after)
+      is_put = outcome (account rest.only.who found rest.only.mine) (same ∙ ap (λ m. m.0) t.after)
 
       -- the entries that are new to the pass
       abbrev since : List (Entry (Indexed C) R)
@@ -166,7 +166,7 @@ module _ {S C R : Type 0} (step : S → C → S × R) (starts : List S) (k i : �
         made = ap length mine_after ∙ length-append (made_by m0.0.accounts) es;
       }
 
-    module _ (t : HasTaken step Opened i rest.only m1) (m2 m3 : Me (Home S) (ArrayView (Indexed C) R)) (full : IsFull i m1 m2) (reported : HasPut step Opened i [] m2 m3)
+    module _ (t : HasTaken step Opened i rest.only m1) (m2 m3 : Me (Home S) (ArrayView (Indexed C) R)) (full : IsFull i m1 m2) (outcome : HasPut step Opened i [] m2 m3)
         (start : S) (there : get_elem? starts i ≡ some start) where
       -- a command at a full part leaves the seat's view unchanged
       abbrev same_full : m2.0 ≡ m1.0
@@ -174,16 +174,16 @@ module _ {S C R : Type 0} (step : S → C → S × R) (starts : List S) (k i : �
 
       -- after a put without an entry, the pass is at rest
       pub rests_full : IsAtRest m3 who
-      rests_full = rests_after t [] m2 m3 same_full reported
+      rests_full = rests_after t [] m2 m3 same_full outcome
 
       -- after a put without an entry, the pass has seen the whole history and added nothing
       pub adds_none : (port port' : TableId) → port' ≡ port → Adds step starts [] (pass_view port who m0) (pass_view port' who m3)
-      adds_none port port' same_port = adds_after t [] m2 m3 same_full reported port port' same_port (All-nil (λ (e : Entry (Indexed C) R). e.who ≡ who))
+      adds_none port port' same_port = adds_after t [] m2 m3 same_full outcome port port' same_port (All-nil (λ (e : Entry (Indexed C) R). e.who ≡ who))
 
       -- if the call was `Spent`, the object's part has 2^64 - 1 entries
       pub is_full : length (part i (seen_by m3.0.accounts)) ≡ 2 ^ 64 - 1
       is_full =
-          let put = is_put t [] m2 m3 same_full reported in
+          let put = is_put t [] m2 m3 same_full outcome in
           let a : List (Entry (Indexed C) R) = rest.only.seen ++ t.others in
           let same_part : part i ((a ++ put.others) ++ []) ≡ part i a =
           ap (part i) (append-nil (a ++ put.others)) ∙ part-append i a put.others ∙ ap (λ l. part i a ++ l) put.elsewhere ∙ append-nil (part i a) in
@@ -191,7 +191,7 @@ module _ {S C R : Type 0} (step : S → C → S × R) (starts : List S) (k i : �
           ∙ sym t.count ∙ ap (λ (h : Home S). h.count) (sym (same_home start there rest.only m1 t full.home full.out)) ∙ full.last
 
     module _ (t : HasTaken step Opened i rest.only m1) (cmd : C) (reply : R) (m2 m3 : Me (Home S) (ArrayView (Indexed C) R)) (p : HasPerformed i step cmd reply m1 m2)
-        (reported : HasPut step Opened i (entry who (indexed i cmd) reply ∷ []) m2 m3) where
+        (outcome : HasPut step Opened i (entry who (indexed i cmd) reply ∷ []) m2 m3) where
       -- the entry of the call
       abbrev e : Entry (Indexed C) R
       e = entry who (indexed i cmd) reply
@@ -202,22 +202,22 @@ module _ {S C R : Type 0} (step : S → C → S × R) (starts : List S) (k i : �
 
       -- after a call with one entry, the pass is at rest
       pub rests_one : IsAtRest m3 who
-      rests_one = rests_after t (e ∷ []) m2 m3 same_one reported
+      rests_one = rests_after t (e ∷ []) m2 m3 same_one outcome
 
       -- after a call with one entry, the pass has added it to the whole history
       pub adds_one : (port port' : TableId) → port' ≡ port
           → Adds step starts (e ∷ []) (pass_view port who m0) (pass_view port' who m3)
       adds_one port port' same_port =
-          adds_after t (e ∷ []) m2 m3 same_one reported port port' same_port (All-cons (λ (e : Entry (Indexed C) R). e.who ≡ who) e [] refl (All-nil (λ (e : Entry (Indexed C) R). e.who ≡ who)))
+          adds_after t (e ∷ []) m2 m3 same_one outcome port port' same_port (All-cons (λ (e : Entry (Indexed C) R). e.who ≡ who) e [] refl (All-nil (λ (e : Entry (Indexed C) R). e.who ≡ who)))
 
       -- after a call with one entry, the object has fewer than 2^64 entries
       pub counted_one : (start : S) → get_elem? starts i ≡ some start → length (part i (seen_by m3.0.accounts)) < 2 ^ 64
       counted_one start there =
-          let put = is_put t (e ∷ []) m2 m3 same_one reported in
+          let put = is_put t (e ∷ []) m2 m3 same_one outcome in
           let a : List (Entry (Indexed C) R) = rest.only.seen ++ t.others in
           let same_part : part i (a ++ put.others) ≡ part i a = part-append i a put.others ∙ ap (λ l. part i a ++ l) put.elsewhere ∙ append-nil (part i a) in
-          let whole : length (part i ((a ++ put.others) ++ e ∷ [])) ≡ length (part i (a ++ put.others)) + length (part i (e ∷ [])) =
+          let complete : length (part i ((a ++ put.others) ++ e ∷ [])) ≡ length (part i (a ++ put.others)) + length (part i (e ∷ [])) =
           ap length (part-append i (a ++ put.others) (e ∷ [])) ∙ length-append (part i (a ++ put.others)) (part i (e ∷ [])) in
           let here : seen_by m3.0.accounts ≡ (a ++ put.others) ++ e ∷ [] = ap (λ m. seen_by m.0.accounts) put.after in
           let counted : p.home.count ≡ length (part i a) = ap (λ (h : Home S). h.count) (same_home start there rest.only m1 t p.home p.out) ∙ t.count in
-          omega (arith, ap (λ l. length (part i l)) here, whole, ap length same_part, ap length (one_part who i cmd reply), counted, p.capacity)
+          omega (arith, ap (λ l. length (part i l)) here, complete, ap length same_part, ap length (one_part who i cmd reply), counted, p.capacity)

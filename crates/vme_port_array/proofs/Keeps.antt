@@ -89,8 +89,8 @@ module _ {S C R : Type 0} (step : S → C → S × R) (starts : List S) where
     one_out = held ∙ away.one_out;
     holder = λ m v there out.
         let was = holder m v there out in
-        let reported = away.holder was.0 v was.1 out in
-        (reported.0, reported.1, reported.2 ∙ sym same);
+        let outcome = away.holder was.0 v was.1 out in
+        (outcome.0, outcome.1, outcome.2 ∙ sym same);
   })
 
   module _ (k : ℕ) where
@@ -139,8 +139,8 @@ module _ {S C R : Type 0} (step : S → C → S × R) (starts : List S) where
         let seen : (a.seen ++ others) ≡ r.history = sym is in
         let fits' : IsConsistent r.history (account a.who (a.seen ++ others) a.mine) = record {
           begins = ([], sym seen ∙ sym (append-nil (a.seen ++ others)));
-          sound = ap (own a.who) seen ∙ fits.whole;
-          whole = fits.whole;
+          sound = ap (own a.who) seen ∙ fits.complete;
+          complete = fits.complete;
         } in
         let out : Away step starts i r.history s' = record {
           taken = λ e. omega (arith, sym reads ∙ e);
@@ -197,9 +197,9 @@ module _ {S C R : Type 0} (step : S → C → S × R) (starts : List S) where
     tries_alone opened opens slots id i new a some_new less s r wide there fits64 =
         let me : Me (Home S) (ArrayView (Indexed C) R) = (view (a ∷ []) None, []) in
         let word : ℕ = slice_index s.words (word_of i) in
-        let reported = take_effect step opened (table_step slots (word_of i) 0 new none) me word in
+        let outcome = take_effect step opened (table_step slots (word_of i) 0 new none) me word in
         exchanged word 0 new
-        (λ n. (w : ArrayView (Indexed C) R) × (act : Act (Home S)) × Valid s.homes [] act × Rule (stepped s (word_of i) n id [] w act) × reported (w, carried_after [] act))
+        (λ n. (w : ArrayView (Indexed C) R) × (act : Act (Home S)) × Valid s.homes [] act × Rule (stepped s (word_of i) n id [] w act) × outcome (w, carried_after [] act))
         (λ hit. elim (r.places i less) [
           | inl home ↦
               let fits : IsConsistent r.history a = r.each id (view (a ∷ []) None) there 0 a (omega arith) in

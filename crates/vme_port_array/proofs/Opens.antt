@@ -16,7 +16,7 @@ use Rattle.vme_port.specs.declared.rule.Account.{Account}
 use Rattle.vme_port_array.specs.declared.rule.ArrayView.{ArrayView}
 use Rattle.vme_port.specs.declared.home.Home.{Home}
 use Rattle.vme_port.specs.Views.{account, fresh_accounts}
-use Rattle.vme_port_array.specs.Views.{view, newcomer, StandsFor, weight, names, holders, is_out}
+use Rattle.vme_port_array.specs.Views.{view, opening_view, Represents, weight, names, holders, is_out}
 use Rattle.vme_port_array.specs.Parts.{word_of}
 use Rattle.vme_port.specs.Rule.{IsConsistent}
 use Rattle.vme_port_array.specs.Rule.{Kept}
@@ -33,14 +33,14 @@ module _ {S C R : Type 0} (step : S → C → S × R) (starts : List S) (k : ℕ
 
   -- the rule holds for a new array
   pub opens : (homes : List (Home S)) → AllAt (λ i (o : S) (h : Home S). (h.object ≡ o) × (h.count ≡ 0)) starts homes
-      → Rule (opening (replicate (length starts * 8) 0) homes (newcomer k))
+      → Rule (opening (replicate (length starts * 8) 0) homes (opening_view k))
   opens homes all =
-      let s : State (Home S) (ArrayView (Indexed C) R) = opening (replicate (length starts * 8) 0) homes (newcomer k) in record {
+      let s : State (Home S) (ArrayView (Indexed C) R) = opening (replicate (length starts * 8) 0) homes (opening_view k) in record {
         history = [];
         legal = λ i start there. tt;
         word_count = length-replicate (length starts * 8) 0;
         each = elim [
-          | zero ↦ λ v at. subst (λ (v : ArrayView (Indexed C) R). All (IsConsistent []) v.accounts) (some-injective (newcomer k) v at) (fresh_fits (Indexed C) R 0 k)
+          | zero ↦ λ v at. subst (λ (v : ArrayView (Indexed C) R). All (IsConsistent []) v.accounts) (some-injective (opening_view k) v at) (fresh_fits (Indexed C) R 0 k)
           | suc j ↦ λ v at. absurd (some-ne-none v (sym at))
         ];
         shared = λ who. let shares = fresh_shared (Indexed C) R k who (ltb who k) refl in omega arith;
@@ -148,8 +148,8 @@ module _ {S C R : Type 0} (step : S → C → S × R) (starts : List S) (k : ℕ
 
 module _ {S C R : Type 0} where
   -- a split of a seat that stands for passes: one seat keeps the later accounts, and one has the first account
-  pub dealt : (k who : ℕ) (m : Me (Home S) (ArrayView C R)) → StandsFor k who m → who < k
-      → (m.0.out ≡ None) × StandsFor k (who + 1) (all_but_first m.0, m.1) × (first_alone m.0 ≡ view (account who [] [] ∷ []) None)
+  pub dealt : (k who : ℕ) (m : Me (Home S) (ArrayView C R)) → Represents k who m → who < k
+      → (m.0.out ≡ None) × Represents k (who + 1) (all_but_first m.0, m.1) × (first_alone m.0 ≡ view (account who [] [] ∷ []) None)
   dealt k who m (zero, sum, is) below = absurd (omega arith)
   dealt k who m (suc n, sum, is) below =
       let next : fresh_accounts {C = C} {R = R} (suc who) n ≡ fresh_accounts (who + 1) n = ap (λ i. fresh_accounts i n) (omega arith) in (
@@ -159,8 +159,8 @@ module _ {S C R : Type 0} where
       )
 
   -- a seat that stands for all passes stands for those from number 0 on
-  pub stands_first : (k : ℕ) (m : Me (Home S) (ArrayView C R)) → m ≡ (newcomer k, []) → StandsFor k 0 m
-  stands_first k m is = (k, omega arith, is)
+  pub represents_first : (k : ℕ) (m : Me (Home S) (ArrayView C R)) → m ≡ (opening_view k, []) → Represents k 0 m
+  represents_first k m is = (k, omega arith, is)
 
 -- the objects before those that are left have homes without entries, in order
 pub record HaveHomes {S : Type 0} (all left : List S) (homes : List (Home S)) : Type 0 where
@@ -190,5 +190,5 @@ homes_more {S} all left rest homes o h was next object count = record {
 pub homes_all : {S : Type 0} (all left : List S) (homes : List (Home S)) → HaveHomes all left homes → left ≡ []
     → AllAt (λ i (o : S) (h : Home S). (h.object ≡ o) × (h.count ≡ 0)) all homes
 homes_all {S} all left homes was none =
-    let whole : was.done ≡ all = sym (was.split ∙ ap (λ l. was.done ++ l) none ∙ append-nil was.done) in
-    subst (λ l. AllAt (λ i (o : S) (h : Home S). (h.object ≡ o) × (h.count ≡ 0)) l homes) whole was.unused
+    let complete : was.done ≡ all = sym (was.split ∙ ap (λ l. was.done ++ l) none ∙ append-nil was.done) in
+    subst (λ l. AllAt (λ i (o : S) (h : Home S). (h.object ≡ o) × (h.count ≡ 0)) l homes) complete was.unused

@@ -33,8 +33,8 @@ module _ {C R : Type 0} where
       → IsConsistent (h ++ es) (account a.who (h ++ es) (a.mine ++ es))
   holder_fits h es a whose f =
       let mine : own a.who (h ++ es) ≡ a.mine ++ es =
-      own-append a.who h es ∙ ap (λ l. l ++ own a.who es) f.whole ∙ ap (λ l. a.mine ++ l) (own_all a.who es whose) in
-      record { begins = ([], sym (append-nil (h ++ es))); sound = mine; whole = mine }
+      own-append a.who h es ∙ ap (λ l. l ++ own a.who es) f.complete ∙ ap (λ l. a.mine ++ l) (own_all a.who es whose) in
+      record { begins = ([], sym (append-nil (h ++ es))); sound = mine; complete = mine }
 
 module _ {S C R : Type 0} (step : S → C → S × R) (starts : List S) where
   -- a history stays legal for each object when legal entries of one object are appended
@@ -128,20 +128,20 @@ module _ {S C R : Type 0} (step : S → C → S × R) (starts : List S) where
         let mine : part i a.seen ≡ part i h = ap (λ (a : Account (Indexed C) R). part i a.seen) (head_same a held.0 held.1) ∙ held.2 in
         let fits : IsConsistent h a = r.each id v at 0 a (omega arith) in
         let others : List (Entry (Indexed C) R) = fits.begins.0 in
-        let whole : h ≡ a.seen ++ others = fits.begins.1 in
-        let elsewhere : part i others ≡ [] = append_same (part i a.seen) (part i others) (sym (part-append i a.seen others) ∙ ap (part i) (sym whole) ∙ sym mine) in
+        let complete : h ≡ a.seen ++ others = fits.begins.1 in
+        let elsewhere : part i others ≡ [] = append_same (part i a.seen) (part i others) (sym (part-append i a.seen others) ∙ ap (part i) (sym complete) ∙ sym mine) in
         let legal : IsLegal step (replay step may.start (part i h)) (part i es) = subst (λ l. IsLegal step (replay step may.start l) (part i es)) mine may.legal in
         let grown : part i a.seen ++ part i es ≡ part i (h ++ es) = ap (λ l. l ++ part i es) mine ∙ sym (part-append i h es) in
         let after : Me (Home S) (ArrayView (Indexed C) R) = (view (account a.who (h ++ es) (a.mine ++ es) ∷ []) None, []) in
-        let reported : IsPut step opened i es a after = record {
+        let outcome : IsPut step opened i es a after = record {
           starts = starts;
           passes = k;
           opens = opens;
           others = others;
           apart = apart h a fits;
           elsewhere = elsewhere;
-          legal = subst (λ l. AreLegal step starts (l ++ es)) whole (legal_after i may.start h es may.opens may.indexes legal r.legal);
-          after = ap (λ l. (view (account a.who (l ++ es) (a.mine ++ es) ∷ []) None, [])) whole;
+          legal = subst (λ l. AreLegal step starts (l ++ es)) complete (legal_after i may.start h es may.opens may.indexes legal r.legal);
+          after = ap (λ l. (view (account a.who (l ++ es) (a.mine ++ es) ∷ []) None, [])) complete;
         } in (
           view (account a.who (h ++ es) (a.mine ++ es) ∷ []) None,
           gives,
@@ -151,5 +151,5 @@ module _ {S C R : Type 0} (step : S → C → S × R) (starts : List S) where
           λ i' word b is.
               let same : i ≡ i' = omega arith in
               subst (λ (i' : ℕ). IsPut step opened i' es b after) same
-              (subst (λ (b : Account (Indexed C) R). IsPut step opened i es b after) (head_same a b (ap (λ v. v.accounts) is)) reported),
+              (subst (λ (b : Account (Indexed C) R). IsPut step opened i es b after) (head_same a b (ap (λ v. v.accounts) is)) outcome),
         ))

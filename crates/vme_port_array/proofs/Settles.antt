@@ -85,17 +85,17 @@ module _ {S C R : Type 0} (step : S → C → S × R) (starts : List S) (k : ℕ
   -- passes settle if their accounts close
   pub settled : (passes : List (PassView (Indexed C) R)) (homes : List (Home S))
       → Closes step starts k (map account_of passes) homes → Settles step starts k passes homes
-  settled passes homes reported =
-      let h : List (Entry (Indexed C) R) = reported.history in
-      let fits = fits_passes h passes reported.fits in record {
+  settled passes homes outcome =
+      let h : List (Entry (Indexed C) R) = outcome.history in
+      let fits = fits_passes h passes outcome.fits in record {
         history = h;
-        legal = reported.legal;
-        ends = reported.ends;
-        known = reported.known;
-        within = reported.within;
-        all = sym (length-map passes account_of) ∙ reported.all;
-        each_who = λ who below. named_passes who passes ∙ reported.each_who who below;
+        legal = outcome.legal;
+        ends = outcome.ends;
+        known = outcome.known;
+        within = outcome.within;
+        all = sym (length-map passes account_of) ∙ outcome.all;
+        each_who = λ who below. named_passes who passes ∙ outcome.each_who who below;
         seen = All-weaker (λ (p : PassView (Indexed C) R). IsConsistent h (account_of p)) (λ (p : PassView (Indexed C) R). IsPrefix p.seen h) (λ p fit. fit.begins) passes fits;
         sound = All-weaker (λ (p : PassView (Indexed C) R). IsConsistent h (account_of p)) (λ (p : PassView (Indexed C) R). own p.who p.seen ≡ p.mine) (λ p fit. fit.sound) passes fits;
-        mine = All-weaker (λ (p : PassView (Indexed C) R). IsConsistent h (account_of p)) (λ (p : PassView (Indexed C) R). own p.who h ≡ p.mine) (λ p fit. fit.whole) passes fits;
+        mine = All-weaker (λ (p : PassView (Indexed C) R). IsConsistent h (account_of p)) (λ (p : PassView (Indexed C) R). own p.who h ≡ p.mine) (λ p fit. fit.complete) passes fits;
       }

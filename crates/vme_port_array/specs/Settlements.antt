@@ -48,7 +48,7 @@ module _ {S C R : Type 0} (step : S → C → S × R) (starts : List S) where
 
   -- an entry has its place in a history: behind all that its caller had seen, after exactly the entries `mine` of its
   -- caller, with the reply of the step at the replay of its object's part before it
-  pub record StandsIn (history seen mine : List (Entry (Indexed C) R)) (e : Entry (Indexed C) R) : Type 0 where
+  pub record HasPlaceIn (history seen mine : List (Entry (Indexed C) R)) (e : Entry (Indexed C) R) : Type 0 where
     pub before : List (Entry (Indexed C) R)
     pub after : List (Entry (Indexed C) R)
     pub place : history ≡ before ++ e ∷ after

@@ -30,9 +30,9 @@ module _ {C R : Type 0} where
   holders i views = count_by (λ v. is_out i v.out) views
 
   -- the view of the first seat of an array with k passes, which stands for all of them
-  abbrev pub newcomer : ℕ → ArrayView C R
-  newcomer k = view (fresh_accounts 0 k) None
+  abbrev pub opening_view : ℕ → ArrayView C R
+  opening_view k = view (fresh_accounts 0 k) None
 
   -- a seat stands for the passes numbered from `who` up to k - 1, which have seen nothing
-  abbrev pub StandsFor : {S : Type 0} → ℕ → ℕ → Me (Home S) (ArrayView C R) → Type 0
-  StandsFor k who m = (n : ℕ) × (who + n ≡ k) × (m ≡ (view (fresh_accounts who n) None, []))
+  abbrev pub Represents : {S : Type 0} → ℕ → ℕ → Me (Home S) (ArrayView C R) → Type 0
+  Represents k who m = (n : ℕ) × (who + n ≡ k) × (m ≡ (view (fresh_accounts who n) None, []))

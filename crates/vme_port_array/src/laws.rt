@@ -10,7 +10,7 @@ ghost use Rattle.vme_port.specs.Passes.{PassView, IsUnused};
 ghost use Rattle.vme_port.specs.Calls.{Makes};
 ghost use Rattle.vme_port_array.specs.declared.indexed.Indexed.{Indexed};
 ghost use Rattle.vme_port_array.specs.Calls.{Adds};
-ghost use Rattle.vme_port_array.specs.Settlements.{Settles, StandsIn};
+ghost use Rattle.vme_port_array.specs.Settlements.{Settles, HasPlaceIn};
 
 use vme_object::Object;
 
@@ -38,27 +38,27 @@ pub fn calls_compose<O: Object>()
 pub fn calls_make_one_history<O: Object>()
     ensures placed { (starts : List O) (homes : List (Home O)) (k : ℕ)
         (passes : List (PassView (Indexed O.Cmd) O.Reply))
-        (reported : Settles O.step starts k passes homes)
+        (outcome : Settles O.step starts k passes homes)
         (es : List (Entry (Indexed O.Cmd) O.Reply)) (p q : PassView (Indexed O.Cmd) O.Reply) →
         Contains passes q → Makes es p q →
-        Each (λ i e. StandsIn O.step starts reported.history p.seen (p.mine ++ take i es) e) es }
+        Each (λ i e. HasPlaceIn O.step starts outcome.history p.seen (p.mine ++ take i es) e) es }
     ensures one_place { (starts : List O)
         (h seen others mine : List (Entry (Indexed O.Cmd) O.Reply))
         (e f : Entry (Indexed O.Cmd) O.Reply) → e.who ≡ f.who →
-        (a : StandsIn O.step starts h seen mine e) → (b : StandsIn O.step starts h others mine f) →
+        (a : HasPlaceIn O.step starts h seen mine e) → (b : HasPlaceIn O.step starts h others mine f) →
         a.before ≡ b.before }
     ensures no_others { (starts : List O) (homes : List (Home O)) (k : ℕ)
         (passes : List (PassView (Indexed O.Cmd) O.Reply))
-        (reported : Settles O.step starts k passes homes) (e : Entry (Indexed O.Cmd) O.Reply) →
-        Contains reported.history e →
+        (outcome : Settles O.step starts k passes homes) (e : Entry (Indexed O.Cmd) O.Reply) →
+        Contains outcome.history e →
         (p : PassView (Indexed O.Cmd) O.Reply) × Contains passes p × Contains p.mine e }
     ensures as_many { (starts : List O) (homes : List (Home O)) (k : ℕ)
         (passes : List (PassView (Indexed O.Cmd) O.Reply))
-        (reported : Settles O.step starts k passes homes) →
-        length reported.history ≡ sum_by (λ p. length p.mine) passes }
+        (outcome : Settles O.step starts k passes homes) →
+        length outcome.history ≡ sum_by (λ p. length p.mine) passes }
     ensures parts { (starts : List O) (homes : List (Home O)) (k : ℕ)
         (passes : List (PassView (Indexed O.Cmd) O.Reply))
-        (reported : Settles O.step starts k passes homes) (port : TableId) (who : ℕ)
+        (outcome : Settles O.step starts k passes homes) (port : TableId) (who : ℕ)
         (es : List (Entry (Indexed O.Cmd) O.Reply)) (p q : PassView (Indexed O.Cmd) O.Reply) →
-        IsUnused port who p → Makes es p q → Contains passes q → own who reported.history ≡ es }
+        IsUnused port who p → Makes es p q → Contains passes q → own who outcome.history ≡ es }
 {}

@@ -2,7 +2,7 @@ ghost use Rattle.std.specs.Prelude.{◌≡◌, ◌+◌, ◌*◌, ◌<◌, ◌≤
 ghost use mathlib.Core.Logic.{◌↔◌};
 ghost use Rattle.vme_object.specs.Each.{Each, AllAt};
 ghost use Rattle.vme_port.specs.Passes.{IsUnused};
-ghost use Rattle.vme_port_array.specs.Views.{StandsFor};
+ghost use Rattle.vme_port_array.specs.Views.{Represents};
 
 use crate::fault::ArrayFault;
 use crate::indexed::Indexed;
@@ -95,7 +95,7 @@ impl<O: Object> PortArray<O> {
             return Err(ArrayFault::OutOfMemory);
         };
         let Opened { array, seat } = opened;
-        array.deal(seat, &mut passes);
+        array.make_passes(seat, &mut passes);
         Ok((array, passes))
     }
 
@@ -130,7 +130,7 @@ impl<O: Object> PortArray<O> {
         ensures objects { IfOk result (λ o. objects_of o.array ≡ vec_len objects) }
         ensures passes { IfOk result (λ o. passes_of o.array ≡ passes) }
         ensures seat { IfOk result (λ o. o.seat.table_id ≡ array_id o.array) }
-        ensures all { IfOk result (λ o. StandsFor passes 0 o.seat.me) }
+        ensures all { IfOk result (λ o. Represents passes 0 o.seat.me) }
     {
         let key = Opening {
             starts: Snapshot::of(&objects),
@@ -153,16 +153,16 @@ impl<O: Object> PortArray<O> {
     }
 
     /// Splits the seat's first account off, and returns a pass for it.
-    fn deal_one(
+    fn split_pass(
         &self,
         seat: &mut Seat<Home<O>, ArrayView<Indexed<O::Cmd>, O::Reply>>,
         who: usize,
     ) -> Pass<O>
         requires array { seat.old.table_id ≡ array_id self.now }
         requires below { who < passes_of self.now }
-        requires all { StandsFor (passes_of self.now) who seat.old.me }
+        requires all { Represents (passes_of self.now) who seat.old.me }
         ensures array { seat.new.table_id ≡ seat.old.table_id }
-        ensures all { StandsFor (passes_of self.now) (who + 1) seat.new.me }
+        ensures all { Represents (passes_of self.now) (who + 1) seat.new.me }
         ensures unused { IsUnused (array_id self.now) who result }
     {
         let seat = self.table.shared.split_seat::<SplitStep>(seat);
@@ -170,20 +170,20 @@ impl<O: Object> PortArray<O> {
     }
 
     /// Pushes a pass for each account of the seat, in the order of their numbers.
-    fn deal(
+    fn make_passes(
         &self,
         mut seat: Seat<Home<O>, ArrayView<Indexed<O::Cmd>, O::Reply>>,
         passes: &mut Vec<Pass<O>>,
     )
         requires array { seat.table_id ≡ array_id self.now }
-        requires all { StandsFor (passes_of self.now) 0 seat.me }
+        requires all { Represents (passes_of self.now) 0 seat.me }
         requires empty { passes.old.items ≡ [] }
         requires capacity { passes_of self.now ≤ vec_capacity passes.old }
         ensures count { vec_len passes.new ≡ passes_of self.now }
         ensures unused { Each (λ i p. IsUnused (array_id self.now) i p) passes.new.items }
     {
         for who in 0..self.passes {
-            let pass = self.deal_one(&mut seat, who);
+            let pass = self.split_pass(&mut seat, who);
             passes.push_reserved(pass);
         }
     }

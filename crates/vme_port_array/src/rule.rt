@@ -27,12 +27,12 @@ pub struct ArrayRule<O> {
 
 impl<O: Object> TableRule<Home<O>, ArrayView<Indexed<O::Cmd>, O::Reply>, Opening<O>>
     for ArrayRule<O> {
-    ghost use Rattle.vme_port_array.specs.Views.{newcomer};
+    ghost use Rattle.vme_port_array.specs.Views.{opening_view};
     ghost use Rattle.vme_port_array.specs.Rule.{Kept};
 
     ghost holds = { λ k. Kept O.step k.starts.value.items k.passes };
 
-    ghost first = { λ k. newcomer k.passes };
+    ghost first = { λ k. opening_view k.passes };
 }
 
 /// What a take or a put states about the opening of its array. The proof of each call chooses it.

@@ -32,7 +32,7 @@ impl<O: Object> PortArray<O> {
         requires idle { IsIdle seat.old.me }
         requires opened { W.opened (opening self.now) (passes_of self.now) }
         ensures array { seat.new.table_id ≡ seat.old.table_id }
-        ensures reported { HasTried O.step W.opened index seat.old.me result seat.new.me }
+        ensures outcome { HasTried O.step W.opened index seat.old.me result seat.new.me }
     {
         self.table
             .shared
@@ -74,7 +74,7 @@ impl<O: Object> PortArray<O> {
         requires opened { W.opened (opening self.now) (passes_of self.now) }
         requires out { MayPut O.step (opening self.now) index E.entries seat.old.me }
         ensures array { seat.new.table_id ≡ seat.old.table_id }
-        ensures reported { HasPut O.step W.opened index E.entries seat.old.me seat.new.me }
+        ensures outcome { HasPut O.step W.opened index E.entries seat.old.me seat.new.me }
     {
         if self
             .table
@@ -108,7 +108,7 @@ impl<O: Object> PortArray<O> {
         requires index { index < objects_of self.now }
         requires out { MayPut O.step (opening self.now) index [] seat.old.me }
         ensures array { seat.new.table_id ≡ seat.old.table_id }
-        ensures reported { HasPut O.step W.opened index [] seat.old.me seat.new.me }
+        ensures outcome { HasPut O.step W.opened index [] seat.old.me seat.new.me }
     {
         self.put_entries::<W, Brand>(seat, index);
     }
@@ -135,7 +135,7 @@ impl<O: Object> PortArray<O> {
         requires out { MayPut O.step (opening self.now) index
             (entry who (indexed index (A.command asked.now)) reply.now ∷ []) seat.old.me }
         ensures array { seat.new.table_id ≡ seat.old.table_id }
-        ensures reported { HasPut O.step W.opened index
+        ensures outcome { HasPut O.step W.opened index
             (entry who (indexed index (A.command asked.now)) reply.now ∷ []) seat.old.me
             seat.new.me }
     {

@@ -40,10 +40,10 @@ all_of_history {C} {R} P passes h no_others each i d less =
 
 -- passes that only increment settle on a counter that grew by one for each entry of their history, which has no others
 pub settled_number :
-    (start : Counter) (k : ℕ) (passes : List (PassView CounterCmd ℕ)) (c : Counter) (n : ℕ) (reported : Settles count_step start k passes c n)
-    → ((e : Entry CounterCmd ℕ) → Contains reported.history e → (p : PassView CounterCmd ℕ) × Contains passes p × Contains p.mine e)
+    (start : Counter) (k : ℕ) (passes : List (PassView CounterCmd ℕ)) (c : Counter) (n : ℕ) (settlement : Settles count_step start k passes c n)
+    → ((e : Entry CounterCmd ℕ) → Contains settlement.history e → (p : PassView CounterCmd ℕ) × Contains passes p × Contains p.mine e)
     → All (λ p. All (λ e. e.cmd ≡ Bump) p.mine) passes → start.number + n < 2 ^ 64 → c.number ≡ start.number + n
-settled_number start k passes c n reported no_others each fits =
-    let all = all_of_history (λ (e : Entry CounterCmd ℕ). e.cmd ≡ Bump) passes reported.history no_others each in
-    let up = bumped start reported.history all (omega (arith, reported.counted)) in
-    omega (arith, reported.counted, up, ap (λ (c : Counter). c.number) reported.replayed)
+settled_number start k passes c n settlement no_others each fits =
+    let all = all_of_history (λ (e : Entry CounterCmd ℕ). e.cmd ≡ Bump) passes settlement.history no_others each in
+    let up = bumped start settlement.history all (omega (arith, settlement.counted)) in
+    omega (arith, settlement.counted, up, ap (λ (c : Counter). c.number) settlement.replayed)

@@ -204,7 +204,7 @@ fn an_array_without_one_pass_is_not_settled(rt: HostRuntime) -> Result<(), Fail>
 }
 
 #[test]
-fn bad_numbers_of_passes_and_objects_are_refused(rt: HostRuntime) -> Result<(), Fail> {
+fn bad_numbers_of_passes_and_objects_are_rejected(rt: HostRuntime) -> Result<(), Fail> {
     for count in [0, 22] {
         match PortArray::new(rt.alloc(), three_counters(rt.alloc())?, count) {
             Err(ArrayFault::BadCount) => {}

@@ -14,7 +14,7 @@ use vme_port::{Pass, Port, PortFault, Unsettled};
 /// The number of calls that each thread makes.
 const CALLS: usize = 1_000;
 
-/// The result of a thread: its pass and the replies to its calls.
+/// The result of a thread: its pass and the replies to its calls, in order.
 #[derive(Drop)]
 struct Worked {
     pass: Pass<Counter>,
@@ -140,7 +140,7 @@ fn four_threads_share_a_counter(rt: HostRuntime) -> Result<(), Fail> {
 }
 
 #[test]
-fn a_sole_pass_is_never_refused(rt: HostRuntime) {
+fn a_sole_pass_is_never_busy(rt: HostRuntime) {
     let (port, mut passes) = open(&rt, rt.alloc(), Counter { number: 0 }, 1);
     let mut pass = next_pass(&rt, &port, &mut passes);
     for i in 0..100u64 {
@@ -154,7 +154,7 @@ fn a_sole_pass_is_never_refused(rt: HostRuntime) {
 }
 
 #[test]
-fn a_count_of_none_and_of_too_many_is_refused(rt: HostRuntime) {
+fn a_count_of_none_and_of_too_many_is_rejected(rt: HostRuntime) {
     for count in [0, 22] {
         match Port::new(rt.alloc(), Counter { number: 0 }, count) {
             Err(PortFault::BadCount) => {}

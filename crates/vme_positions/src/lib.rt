@@ -10,6 +10,7 @@ mod lexer;
 mod outline;
 mod parts;
 mod place;
+mod repeated;
 mod script;
 mod span;
 #[cfg(test)]

@@ -141,6 +141,19 @@ impl Parts {
         None
     }
 
+    /// Where a key with this name stands first, if the table has it.
+    pub(crate) fn first_of(&self, table: TableName, name: &str) -> Option<Span> {
+        if let Some(key) = Key::named(table, name) {
+            return Some(self.find(key)?.name_at);
+        }
+        for unknown in &self.unknown {
+            if unknown.name.as_str() == name {
+                return Some(unknown.at);
+            }
+        }
+        None
+    }
+
     /// Sorts the unknown keys, and keeps the first place of each.
     pub(crate) fn sort(&mut self) {
         self.unknown.sort_unstable();

@@ -140,3 +140,46 @@ fn a_key_has_its_name(rt: HostRuntime) {
         }
     }
 }
+
+/// The offset in `text` where the key that its last line repeats stands first.
+fn first_of_last(rt: HostRuntime, text: &str) -> Result<Option<usize>, AllocError> {
+    let outline = Outline::of(rt.alloc(), text.as_bytes())?;
+    let from = text.rfind('\n').map_or(0, |end| end + 1);
+    let again = Span {
+        from,
+        to: text.len(),
+    };
+    Ok(
+        outline
+            .first_of_key(text.as_bytes(), again)
+            .map(|first| first.from),
+    )
+}
+
+/// Documents whose last line may repeat a key, with the offset where that key is first.
+static REPEATED: [(&str, Option<usize>); 13] = [
+    ("rounds = 1\ntries = 2\nrounds = 3", Some(0)),
+    ("rounds = 1\n[[board]]\nslot = 1\nslot = 2", Some(21)),
+    (
+        "[[board]]\nslot = 1\n[[board]]\n 'slot' = 2\n'slot' = 3",
+        Some(30),
+    ),
+    ("[[board]]\nx = 1\n  x = 2", Some(10)),
+    ("[[board]]\n[[mailbox]]\nam = 1\nam = 2", Some(22)),
+    ("[[mailbox]]\n[[board]]\nslot = 1\nam = 1\nam = 2", Some(31)),
+    ("[[board]]\nslot = 1\n[board]", Some(0)),
+    ("x = 1\n[ x ]", Some(0)),
+    ("[[board]]\nslot = 1\n[x]\nslot = 2", None),
+    ("[[board]]\nslot.x = 1\nslot.x = 2", None),
+    ("rounds = 1\ntries = 2", None),
+    ("rounds", None),
+    ("", None),
+];
+
+#[test]
+fn a_repeated_key_has_its_first_place(rt: HostRuntime) -> Result<(), Fail> {
+    for (text, first) in &REPEATED {
+        assert_eq!(rt; first_of_last(rt, text)?, *first, "{text:?}");
+    }
+    Ok(())
+}

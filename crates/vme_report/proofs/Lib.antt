@@ -1,3 +1,3 @@
 pub mod Statuses
-pub mod Wholes
+pub mod FirstParts
 pub mod Reports

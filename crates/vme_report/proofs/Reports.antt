@@ -9,20 +9,24 @@ use Rattle.vme_report.specs.Reports.{part_text, report_text}
 use Rattle.vme_io.proofs.lemmas.Gathering.{SoFar, so_far_none, so_far_more, so_far_fails}
 
 module _ (boards : List BoardText) where
+  -- the text of the replies of all boards
   abbrev replies : List ℕ
   replies = flat_map (part_text Replies) boards
 
+  -- the text of the counts of all boards
   abbrev counts : List ℕ
   counts = flat_map (part_text Counts) boards
 
+  -- the text of the memories of all boards
   abbrev memories : List ℕ
   memories = flat_map (part_text Memory) boards
 
+  -- a report is the text of the replies, the counts and the memories
   by_parts : report_text boards ≡ replies ++ (counts ++ memories)
   unfolding report_text
   by_parts = refl
 
-  -- after the replies, the counts and the memories are left to write
+  -- after the replies, the counts and the memories remain to be written
   pub replies_reported :
       (old new : Option (List ℕ)) (before after : List ℕ) → before ≡ [] → Gathers old new before after replies
       → SoFar old new after (counts ++ memories) (report_text boards)
@@ -30,14 +34,14 @@ module _ (boards : List BoardText) where
       so_far_more old old new before after replies (report_text boards) (counts ++ memories) (report_text boards)
       (so_far_none old before (report_text boards) none) by_parts reported
 
-  -- after the counts, the memories are left to write
+  -- after the counts, the memories remain to be written
   pub counts_reported :
       (old mid new : Option (List ℕ)) (before after : List ℕ) → SoFar old mid before (counts ++ memories) (report_text boards)
       → Gathers mid new before after counts → SoFar old new after memories (report_text boards)
   counts_reported old mid new before after so_far reported =
       so_far_more old mid new before after counts (counts ++ memories) memories (report_text boards) so_far refl reported
 
-  -- after the memories, nothing is left to write
+  -- after the memories, nothing remains to be written
   pub memory_reported :
       (old mid new : Option (List ℕ)) (before after : List ℕ) → SoFar old mid before memories (report_text boards)
       → Gathers mid new before after memories → SoFar old new after [] (report_text boards)

@@ -19,10 +19,10 @@ unfoldable pub report_text : List BoardText → List ℕ
 report_text boards =
     flat_map (part_text Replies) boards ++ (flat_map (part_text Counts) boards ++ flat_map (part_text Memory) boards)
 
--- Marked if a reply to one script is not a success
+-- the status of one script: Marked if a reply to it is not a success, otherwise Clean
 abbrev pub board_status : List (ℕ × LineReply) → Status
 board_status lines = worst (map (λ line. reply_status line.1) lines)
 
--- Marked if a reply to any script is not a success
+-- the status of a report: Marked if a reply to any script is not a success, otherwise Clean
 abbrev pub report_status : List BoardText → Status
 report_status boards = worst (map (λ board. board_status board.lines) boards)

@@ -75,7 +75,7 @@ row_text slot offset row =
     else output_line (codes "mem " ++ (decimal slot ++ (codes " "
     ++ (hex_text (to_be_bytes w32 offset) ++ (codes " " ++ hex_text row)))))
 
--- row i of a memory: sixteen bytes, or those that are left
+-- row i of a memory: sixteen bytes, or fewer in the last row
 abbrev pub row : List ℕ → ℕ → List ℕ
 row bytes i = take 16 (drop (16 * i) bytes)
 

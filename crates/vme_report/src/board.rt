@@ -3,7 +3,7 @@ use std::marker::Model;
 use vme_memory::ByteMemory;
 use vme_shared::LineReply;
 
-/// A board as a report describes it. It borrows its parts, so that nothing is copied.
+/// The parts of a board that a report describes. They are borrowed, so nothing is copied.
 #[derive(Drop)]
 pub struct BoardReportRef<'a> {
     /// The slot of the board.

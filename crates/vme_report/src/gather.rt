@@ -1,5 +1,5 @@
 //! The parts of a report, line by line: the text is gathered and written to a sink in large pieces.
-ghost use Rattle.std.specs.Prelude.{◌≡◌, ◌≤◌, ◌*◌, ◌++◌, [], false, length, take, drop, flat_map, OnOk, OnErr, IfErr};
+ghost use Rattle.std.specs.Prelude.{◌≡◌, ◌≤◌, ◌*◌, ◌%◌, ◌++◌, [], false, length, take, drop, flat_map, OnOk, OnErr, IfErr};
 ghost use Rattle.vme_io.specs.Prefixes.{GathersOrStops};
 ghost use Rattle.vme_report.specs.Ends.{IsReportFault, is_write_end};
 ghost use Rattle.vme_report.specs.Boards.{BoardText};
@@ -56,6 +56,7 @@ fn gather_board<W: Sink>(
     }
 }
 
+/// Gathers the lines of the replies to a script.
 fn gather_replies<W: Sink>(
     slot: u16,
     lines: &[(u16, LineReply)],
@@ -74,6 +75,7 @@ fn gather_replies<W: Sink>(
     Ok(())
 }
 
+/// Gathers the line of one reply.
 #[tactic(auto, using(vme_io::proofs::lemmas::Gathering::printed_gathers, vme_io::proofs::lemmas::Gathering::printed_prefix, vme_io::proofs::lemmas::Gathering::nothing_prefix))]
 fn gather_reply<W: Sink>(
     slot: u16,
@@ -93,6 +95,7 @@ fn gather_reply<W: Sink>(
     Ok(())
 }
 
+/// Gathers the line of a board's counts.
 #[tactic(auto, using(vme_io::proofs::lemmas::Gathering::printed_gathers, vme_io::proofs::lemmas::Gathering::printed_prefix, vme_io::proofs::lemmas::Gathering::nothing_prefix))]
 fn gather_counts<W: Sink>(
     slot: u16,
@@ -126,27 +129,32 @@ fn gather_memory<W: Sink>(
     ensures faults { IfErr result IsReportFault }
 {
     for i in 0..memory.size().div_ceil(ROW_SIZE) {
-        let row = memory.row(ROW_SIZE * i);
-        gather_row(slot, ROW_SIZE * i, row.as_slice(), text, writer)?;
+        gather_row(slot, ROW_SIZE * i, memory, text, writer)?;
     }
     Ok(())
 }
 
+/// Gathers the line of the row of a memory that begins at `offset`, unless the row is all zero.
 #[tactic(auto, using(vme_io::proofs::lemmas::Gathering::printed_gathers, vme_io::proofs::lemmas::Gathering::printed_prefix, vme_io::proofs::lemmas::Gathering::nothing_prefix))]
 fn gather_row<W: Sink>(
     slot: u16,
     offset: u32,
-    row: &[u8],
+    memory: &ByteMemory,
     text: &mut Vec<u8>,
     writer: &mut W,
 ) -> Result<(), RunFault>
-    requires { W.is_marked writer.old ≡ false }
+    requires mark { W.is_marked writer.old ≡ false }
+    requires aligned { offset % 4 ≡ 0 }
+    requires within { offset ≤ length memory.now.bytes }
     ensures gathers { GathersOrStops result (W.contents writer.old) (W.contents writer.new)
-        text.old.items text.new.items (row_text slot offset row.now) }
+        text.old.items text.new.items (row_text slot offset (take 16 (drop offset memory.now.bytes))) }
     ensures write { W.is_marked writer.new ≡ is_write_end result }
     ensures faults { IfErr result IsReportFault }
 {
-    print_row(slot, offset, row, text)?;
+    if memory.is_blank_row(offset) {
+        return Ok(());
+    }
+    print_row(slot, offset, memory.row(offset).as_slice(), text)?;
     flush_if_full(text, writer)?;
     Ok(())
 }

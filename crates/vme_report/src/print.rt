@@ -43,6 +43,7 @@ fn print_line(slot: u16, line: u16, reply: &LineReply, text: &mut Vec<u8>) -> Re
     print_reply(reply, text)
 }
 
+/// Appends the slot of a script and the number of a line, or a prefix of them if an allocation fails.
 fn print_place(slot: u16, line: u16, text: &mut Vec<u8>) -> Result<(), AllocError>
     ensures text { OnOk result (text.new.items ≡ text.old.items ++ place_text slot line) }
     ensures before { OnErr result (take (length text.old.items) text.new.items ≡ text.old.items) }
@@ -53,6 +54,7 @@ fn print_place(slot: u16, line: u16, text: &mut Vec<u8>) -> Result<(), AllocErro
     text.extend_from_slice(b" ")
 }
 
+/// Appends a reply and LF, or a prefix of them if an allocation fails.
 fn print_reply(reply: &LineReply, text: &mut Vec<u8>) -> Result<(), AllocError>
     ensures text { OnOk result (text.new.items ≡ text.old.items ++ output_line (reply_text reply.now)) }
     ensures before { OnErr result (take (length text.old.items) text.new.items ≡ text.old.items) }
@@ -67,6 +69,7 @@ fn print_reply(reply: &LineReply, text: &mut Vec<u8>) -> Result<(), AllocError>
     }
 }
 
+/// Appends the line of an outcome; if an allocation fails, the text is unchanged.
 fn print_outcome(outcome: &Outcome, text: &mut Vec<u8>) -> Result<(), AllocError>
     ensures text { OnOk result
         (text.new.items ≡ text.old.items ++ output_line (transfer_text outcome.now)) }
@@ -81,6 +84,7 @@ fn print_outcome(outcome: &Outcome, text: &mut Vec<u8>) -> Result<(), AllocError
     }
 }
 
+/// Appends the line of an outcome of a lock or a mailbox, or a prefix of it if an allocation fails.
 fn print_shared(outcome: SharedOutcome, text: &mut Vec<u8>) -> Result<(), AllocError>
     ensures text { OnOk result (text.new.items ≡ text.old.items ++ output_line (shared_text outcome)) }
     ensures before { OnErr result (take (length text.old.items) text.new.items ≡ text.old.items) }
@@ -99,6 +103,7 @@ fn print_shared(outcome: SharedOutcome, text: &mut Vec<u8>) -> Result<(), AllocE
     }
 }
 
+/// Appends the line of a word that was taken, or a prefix of it if an allocation fails.
 fn print_took(word: u32, text: &mut Vec<u8>) -> Result<(), AllocError>
     ensures text { OnOk result
         (text.new.items ≡ text.old.items ++ output_line (shared_text (Took word))) }
@@ -109,6 +114,7 @@ fn print_took(word: u32, text: &mut Vec<u8>) -> Result<(), AllocError>
     text.extend_from_slice(b"\n")
 }
 
+/// Appends a number in decimal; if an allocation fails, the text is unchanged.
 fn print_number(number: u64, text: &mut Vec<u8>) -> Result<(), AllocError>
     ensures text { OnOk result (text.new.items ≡ text.old.items ++ decimal number) }
     ensures kept { OnErr result (text.new.items ≡ text.old.items) }
@@ -136,6 +142,7 @@ pub(crate) fn print_counts(
     text.extend_from_slice(b"\n")
 }
 
+/// Appends the number of steps that each processor made, each after a space.
 fn print_made(made: &[u64], text: &mut Vec<u8>) -> Result<(), AllocError>
     ensures { OnOk result (text.new.items ≡ text.old.items ++ flat_map count_text made.now) }
 {

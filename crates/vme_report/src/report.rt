@@ -19,7 +19,7 @@ use vme_shared::Status;
 ///
 /// Returns `Clean` if every reply is a success, otherwise `Marked`.
 ///
-/// If the writer has no byte model, only the clauses of the faults and of the status hold.
+/// If the writer has no byte model, the clauses `text` and `prefix` do not state what is written.
 ///
 /// # Errors
 ///

@@ -5,6 +5,7 @@ ghost use Rattle.vme_report.specs.Reports.{board_status, report_status};
 use crate::board::BoardReportRef;
 use vme_shared::{LineReply, Status};
 
+/// Returns `Marked` if a reply to any script is not a success, otherwise `Clean`.
 #[tactic(auto, using(crate::proofs::Statuses::worse_assoc, crate::proofs::Statuses::worse_clean))]
 pub(crate) fn status_of(boards: &[BoardReportRef<'_>]) -> Status
     ensures { result ≡ report_status boards.now }
@@ -16,6 +17,7 @@ pub(crate) fn status_of(boards: &[BoardReportRef<'_>]) -> Status
     status
 }
 
+/// Returns `Marked` if a reply to this script is not a success, otherwise `Clean`.
 #[tactic(auto, using(crate::proofs::Statuses::worse_assoc, crate::proofs::Statuses::worse_clean))]
 fn board_status(lines: &[(u16, LineReply)]) -> Status
     ensures { result ≡ board_status lines.now }

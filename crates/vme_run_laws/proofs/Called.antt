@@ -14,23 +14,23 @@ use Rattle.vme_arbiter.specs.declared.command.ArbReply.TheVariants as arb_replie
 use Rattle.vme_arbiter.specs.Requests.{is_slot}
 use Rattle.vme_arbiter.specs.Arbitration.{Arbitration, arbiter_step}
 use Rattle.vme_arbiter.specs.Orderly.{IsOrderly}
-use Rattle.vme_arbiter.specs.Masters.{slot_of, may_give, StandsAsReplied}
-use Rattle.vme_arbiter.proofs.lemmas.Turns.{own-turn}
+use Rattle.vme_arbiter.specs.Masters.{slot_of, may_give, MatchesReply}
+use Rattle.vme_arbiter.proofs.lemmas.Turns.{own-reply}
 use Rattle.vme_arbiter.proofs.lemmas.Orderly.{orderly-step}
 use Rattle.vme_core.specs.declared.event.EventReply.{EventReply}
 use Rattle.vme_core.specs.declared.event.EventReply.TheVariants as replies
 use Rattle.vme_core.specs.CountedStates.{CountedState}
 use Rattle.vme_core.specs.Runs.{Machine}
 use Rattle.vme_core.specs.Calls.{Call, OnBoard, OnBus, command_step, board_after, machine_step}
-use Rattle.vme_master.proofs.lemmas.Locals.{board_fits, turn_fits}
-use Rattle.vme_line_task.specs.Tenures.{IsGood}
+use Rattle.vme_master.proofs.lemmas.Locals.{board_fits, arbiter_fits}
+use Rattle.vme_line_task.specs.Tenures.{IsUndeniedReply}
 
 -- a call on a board leaves the arbiter unchanged, and its reply is one of a board and fits the call
 pub record BoardCalled (machine : Machine) (who x : ℕ) (command : Option Command) (after : Machine × EventReply) : Type 0 where
   pub bus : after.0.bus ≡ machine.bus
   pub reply : Reply
   pub replied : after.1 ≡ replies.Board reply
-  pub good : IsGood (OnBoard x command) (replies.Board reply)
+  pub good : IsUndeniedReply (OnBoard x command) (replies.Board reply)
 
 -- a call on a board leaves the arbiter unchanged, whether a board is at that place or not
 by_found : (machine : Machine) (who x : ℕ) (command : Option Command) (found : Option (CountedState Board))
@@ -54,11 +54,11 @@ board_called machine who x command = by_found machine who x command (slice_get m
 pub record BusCalled (bus : Arbitration) (slot : ℕ) (cmd : ArbCmd) : Type 0 where
   pub orderly : IsOrderly (arbiter_step bus cmd).0
   pub own : slot_of cmd ≡ slot
-  pub stands : StandsAsReplied (arbiter_step bus cmd).0 slot (Some (arbiter_step bus cmd).1)
-  pub good : IsGood (OnBus cmd) (replies.Bus (arbiter_step bus cmd).1)
+  pub stands : MatchesReply (arbiter_step bus cmd).0 slot (Some (arbiter_step bus cmd).1)
+  pub good : IsUndeniedReply (OnBus cmd) (replies.Bus (arbiter_step bus cmd).1)
 
 -- a reply that agrees with a slot's state is no denial
-never_denied : (bus : Arbitration) (slot : ℕ) (reply : ArbReply) → StandsAsReplied bus slot (Some reply)
+never_denied : (bus : Arbitration) (slot : ℕ) (reply : ArbReply) → MatchesReply bus slot (Some reply)
     → replies.Bus reply ≢ replies.Bus arb_replies.Denied
 never_denied bus slot arb_replies.Denied stands = λ same. stands
 never_denied bus slot arb_replies.Granted stands = λ same. absurd cc
@@ -80,19 +80,19 @@ own_slot slot last cmd may = absurd cc
 
 -- each command that a slot may give after its last reply is not denied
 pub bus_called : (bus : Arbitration) (slot : ℕ) (last : Option ArbReply) (cmd : ArbCmd) → IsOrderly bus → is_slot slot ≡ true
-    → StandsAsReplied bus slot last → may_give slot last cmd ≡ true → BusCalled bus slot cmd
+    → MatchesReply bus slot last → may_give slot last cmd ≡ true → BusCalled bus slot cmd
 bus_called bus slot last cmd orderly lawful stands may =
-    let now = own-turn bus slot last cmd orderly lawful stands may in
+    let now = own-reply bus slot last cmd orderly lawful stands may in
     record {
       orderly = orderly-step bus cmd orderly;
       own = own_slot slot last cmd may;
       stands = now;
-      good = record { fit = turn_fits bus cmd; granted = never_denied (arbiter_step bus cmd).0 slot (arbiter_step bus cmd).1 now };
+      good = record { fit = arbiter_fits bus cmd; granted = never_denied (arbiter_step bus cmd).0 slot (arbiter_step bus cmd).1 now };
     }
 
 -- the reply to a call is not a denial
 pub call_granted : (machine : Machine) (who slot : ℕ) (last : Option ArbReply) (call : Call) → IsOrderly machine.bus.object
-    → is_slot slot ≡ true → StandsAsReplied machine.bus.object slot last
+    → is_slot slot ≡ true → MatchesReply machine.bus.object slot last
     → ((cmd : ArbCmd) → call ≡ OnBus cmd → may_give slot last cmd ≡ true)
     → (machine_step machine who call).1 ≢ replies.Bus arb_replies.Denied
 call_granted machine who slot last (OnBoard x command) orderly lawful stands may =

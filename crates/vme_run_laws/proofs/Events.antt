@@ -47,7 +47,7 @@ use Rattle.vme_shared.specs.Tables.{SharedJob, Progress, At, Over, transfer_job 
 use Rattle.vme_shared.proofs.lemmas.Tenures.{shown_makes}
 use Rattle.vme_line_task.specs.Scripts.{Attempt, Transferring, Awaiting, Sharing, slot_at, level_at, mailbox_at, transfer_job, request_attempt, unless_refused, shared_job, line_attempt}
 use Rattle.vme_line_task.specs.Tables.{attempt_next, attempts_of, lawful_next, next_given}
-use Rattle.vme_line_task.proofs.lemmas.Below.{moves_makes, waits_makes, shares_makes}
+use Rattle.vme_line_task.proofs.lemmas.Below.{transferring_makes, waits_makes, shares_makes}
 use Rattle.vme_line_task.specs.Events.{IsCallBelow}
 use Rattle.vme_mailbox_laws.proofs.lemmas.OwnJobs.{OwnJob, own_job}
 
@@ -150,10 +150,10 @@ line_event : (config : Configuration) → IsLawful config → (board : ℕ) (lin
 line_event config lawful board line given (OnBus cmd) made = record { event = events.Bus cmd; is = refl }
 line_event config lawful board (lines.Bus request) given (OnBoard x command) made =
     lawful_event config lawful board request (transfer_of request) (λ t. Transferring (transfer_job config board t)) given x command refl
-    (λ t g makes. moves_makes (next_of (transfer_job config board t) g) (OnBoard x command) makes) made
+    (λ t g makes. transferring_makes (next_of (transfer_job config board t) g) (OnBoard x command) makes) made
 line_event config lawful board (lines.Local cmd) given (OnBoard x command) made =
     let g = (attempts_of (Transferring (local_job board cmd)) config.tries given).given in
-    local_event board cmd g x command (moves_makes (next_of (local_job board cmd) g) (OnBoard x command) made)
+    local_event board cmd g x command (transferring_makes (next_of (local_job board cmd) g) (OnBoard x command) made)
 line_event config lawful board (lines.Await am addr bytes) given (OnBoard x command) made =
     let request = requests.Read am addr (length bytes.items) in
     lawful_event config lawful board request (transfer_of request) (λ t. Awaiting (transfer_job config board t) bytes.items) given x command refl

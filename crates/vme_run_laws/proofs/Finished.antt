@@ -16,17 +16,17 @@ use Rattle.vme_shared.specs.Tables.{shared_next}
 use Rattle.vme_grammar.specs.declared.line.Line.{Line}
 use Rattle.vme_script.specs.Configurations.{Configuration}
 use Rattle.vme_line_task.specs.Scripts.{Attempt, Transferring, Awaiting, Sharing, lines_at, line_attempt}
-use Rattle.vme_line_task.specs.Tables.{moves_next, waits_next, shares_next, attempt_next, attempts_of, lawful_next, next_given}
+use Rattle.vme_line_task.specs.Tables.{transferring_next, waits_next, shares_next, attempt_next, attempts_of, lawful_next, next_given}
 use Rattle.vme_line_task.specs.Traces.{IsTrace}
 use Rattle.vme_bus_objects.specs.Runs.{transitions_of}
 use Rattle.vme_threads.specs.declared.report.Report.{Report}
-use Rattle.vme_threads.specs.Rans.{answers_in}
+use Rattle.vme_threads.specs.Rans.{replies_of_lines}
 use Rattle.vme_threads.specs.OneOrder.{IsReportOfOneOrder}
 use Rattle.vme_sequential.proofs.lemmas.Lists.{element_at}
 use Rattle.vme_run_laws.specs.Finished.{AreFinished}
 
 -- a transfer or a local command does not end with `Unfinished`
-by_moves : (next : NextStep Outcome) (answer : LineReply) → moves_next next ≡ Returns answer → answer ≢ Unfinished
+by_moves : (next : NextStep Outcome) (answer : LineReply) → transferring_next next ≡ Returns answer → answer ≢ Unfinished
 by_moves NotStarted answer ends over = cc
 by_moves (Invokes call) answer ends over = cc
 by_moves (Returns outcome) answer ends over = cc
@@ -86,5 +86,5 @@ pub report_finished : (config : Configuration) (report : Report) → IsReportOfO
 report_finished config report is who d below =
     let there : who < length config.boards = omega (arith, below, is.trace.count) in
     trace_finished config who (lines_at config who) (transitions_of who is.run)
-    (answers_in (slice_index_or report.lines.items who d).items)
+    (replies_of_lines (slice_index_or report.lines.items who d).items)
     (is.trace.each who (element_at config.boards who there).0 d there)

@@ -9,7 +9,7 @@ use Rattle.vme_arbiter.specs.Arbitration.{opening_bus, arbiter_step}
 use Rattle.vme_core.specs.CountedStates.{fresh_count}
 use Rattle.vme_core.specs.Runs.{Machine, Transition, IsRun, bus_part}
 use Rattle.vme_core.specs.Calls.{Call, call_of}
-use Rattle.vme_core.proofs.lemmas.Dones.{did_nil, did_trans, opened_boards}
+use Rattle.vme_core.proofs.lemmas.RunSteps.{did_nil, did_trans, opened_boards}
 use Rattle.vme_core.proofs.lemmas.CountedStates.{run_replays}
 use Rattle.vme_script.specs.Configurations.{Configuration, opening_memory}
 use Rattle.vme_script.specs.Lawful.{IsLawful}

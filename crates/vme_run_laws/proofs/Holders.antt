@@ -11,7 +11,7 @@ use Rattle.vme_arbiter.specs.declared.command.ArbCmd.TheVariants.{Ask, Look, Don
 use Rattle.vme_arbiter.specs.Requests.{BusRequest, bus_request}
 use Rattle.vme_arbiter.specs.Arbitration.{Arbitration, holds, can_ask, lawful_ask, arbiter_step}
 use Rattle.vme_arbiter.specs.Orderly.{IsOrderly}
-use Rattle.vme_arbiter.specs.Masters.{slot_of, StandsAsReplied}
+use Rattle.vme_arbiter.specs.Masters.{slot_of, MatchesReply}
 use Rattle.vme_core.specs.declared.event.Event.{Event}
 use Rattle.vme_core.specs.declared.event.Event.TheVariants as events
 use Rattle.vme_core.specs.declared.event.EventReply.{EventReply}
@@ -25,7 +25,7 @@ use Rattle.vme_script.specs.Lawful.{IsLawful}
 use Rattle.vme_line_task.specs.Scripts.{slot_at}
 use Rattle.vme_line_task.specs.Tables.{line_next}
 use Rattle.vme_line_task.specs.Tenures.{line_arb_reply}
-use Rattle.vme_line_task.proofs.lemmas.Kept.{line_turns}
+use Rattle.vme_line_task.proofs.lemmas.Kept.{line_command_allowed}
 use Rattle.vme_stepper.specs.Turns.{SystemState, lines_left, turn, run as take_turns, initial_state}
 use Rattle.vme_threads.specs.declared.report.Report.{Report}
 use Rattle.vme_threads.specs.OneOrder.{IsReportOfOneOrder}
@@ -46,12 +46,12 @@ NamesSlot slot (OnBus cmd) = slot_of cmd ≡ slot
 -- a line's command to the arbiter names the slot of the line's processor
 line_names : (config : Configuration) (lawful : IsLawful config) (board : ℕ) → board < length config.boards
     → (bus : Arbitration) (line : Line)
-    (replies : List EventReply) (call : Call) → IsOwnLine line → StandsAsReplied bus (slot_at config board) (line_arb_reply config board line replies)
+    (replies : List EventReply) (call : Call) → IsOwnLine line → MatchesReply bus (slot_at config board) (line_arb_reply config board line replies)
     → line_next config board line replies ≡ Invokes call → NamesSlot (slot_at config board) call
 line_names config lawful board there bus line replies (OnBoard place command) own stands made = tt
 line_names config lawful board there bus line replies (OnBus cmd) own stands made =
     own_slot (slot_at config board) (line_arb_reply config board line replies) cmd
-    (line_turns config board line replies cmd (lawful_level config board lawful there) made)
+    (line_command_allowed config board line replies cmd (lawful_level config board lawful there) made)
 
 -- a turn's command to the arbiter names the turn's slot
 names_slot : (config : Configuration) (system : SystemState) (slot board : ℕ) (call : Call) → IsLawful config

@@ -13,7 +13,7 @@ use Rattle.vme_core.specs.CountedStates.{CountedState}
 use Rattle.vme_core.specs.Runs.{Machine, Transition, IsRun, move}
 use Rattle.vme_core.specs.Calls.{Call, OnBoard, OnBus, call_of, board_after, machine_step}
 use Rattle.vme_core.proofs.lemmas.Calls.{did_call}
-use Rattle.vme_core.proofs.lemmas.Dones.{did_nil}
+use Rattle.vme_core.proofs.lemmas.RunSteps.{did_nil}
 use Rattle.vme_core.specs.NextSteps.{NextStep, NotStarted, Invokes, Returns}
 use Rattle.vme_shared.specs.declared.reply.LineReply.{LineReply}
 use Rattle.vme_grammar.specs.declared.line.Line.{Line}

@@ -20,7 +20,7 @@ use Rattle.vme_mailbox_laws.specs.Groups.{own_words_put, own_words_taken}
 use Rattle.vme_mailbox_laws.proofs.lemmas.Groups.{own_words}
 use Rattle.vme_mailbox_laws.proofs.lemmas.Shared.{proper, put_by_outcome, taken_by_outcome}
 use Rattle.vme_threads.specs.declared.report.Report.{Report}
-use Rattle.vme_threads.specs.Rans.{answers_in}
+use Rattle.vme_threads.specs.Rans.{replies_of_lines}
 use Rattle.vme_threads.specs.OneOrder.{IsReportOfOneOrder}
 use Rattle.vme_sequential.proofs.lemmas.Lists.{element_at}
 use Rattle.vme_run_laws.proofs.Shared.{own_runs, share, new_mailbox, replies_in_report, reported_each}
@@ -33,10 +33,10 @@ pub record IsQueue (config : Configuration) (report : Report) (box : ℕ) (m : B
   pub order : IsPrefix (words_taken m h) (words_put m h)
   pub capacity : length (words_put m h) ≤ length (words_taken m h) + m.slots
   pub put :
-      Each (λ who lines. own_words_put who m h ≡ lines_put box (lines_at config who) (answers_in lines.items))
+      Each (λ who lines. own_words_put who m h ≡ lines_put box (lines_at config who) (replies_of_lines lines.items))
       report.lines.items
   pub taken :
-      Each (λ who lines. own_words_taken who m h ≡ lines_taken box (lines_at config who) (answers_in lines.items))
+      Each (λ who lines. own_words_taken who m h ≡ lines_taken box (lines_at config who) (replies_of_lines lines.items))
       report.lines.items
 
 -- if only the lines that name a mailbox touch its bytes, it is a queue in the history of its board

@@ -19,10 +19,10 @@ use Rattle.vme_script.specs.Configurations.{Configuration, opening_memory}
 use Rattle.vme_script.specs.Lawful.{IsLawful}
 use Rattle.vme_line_task.specs.Scripts.{lines_at}
 use Rattle.vme_line_task.specs.Traces.{IsTrace}
-use Rattle.vme_mailbox_laws.specs.Runs.{AllTurned, ShareHistory}
+use Rattle.vme_mailbox_laws.specs.Runs.{AllFittingReplies, ShareHistory}
 use Rattle.vme_bus_objects.specs.Runs.{transitions_of}
 use Rattle.vme_threads.specs.declared.report.Report.{Report}
-use Rattle.vme_threads.specs.Rans.{answers_in}
+use Rattle.vme_threads.specs.Rans.{replies_of_lines}
 use Rattle.vme_threads.specs.OneOrder.{IsReportOfOneOrder}
 use Rattle.vme_threads.proofs.lemmas.Parts.{part_of, board_whose}
 use Rattle.vme_sequential.proofs.lemmas.Lists.{values, values_count, each_value, value_pairs}
@@ -30,17 +30,17 @@ use Rattle.vme_sequential.proofs.lemmas.Histories.{known_of}
 use Rattle.vme_sequential.proofs.lemmas.Reports.{order}
 use Rattle.vme_run_laws.proofs.Granted.{run_turned}
 
--- if all replies of a run satisfy `IsTurned`, so do those of one processor's transitions
-turned_own : (who : ℕ) (run : List Transition) → AllTurned run → AllTurned (transitions_of who run)
-turned_own who [] turned = tt
-turned_own who (m ∷ run) turned = elim (cases_eq m.who who) [
-  | inl same ↦ rw (eq-eqb m.who who same) (turned.0, turned_own who run turned.1)
-  | inr other ↦ rw (ne_eqb m.who who other) (turned_own who run turned.1)
+-- if all replies of a run satisfy `IsFittingReply`, so do those of one processor's transitions
+fitting_own : (who : ℕ) (run : List Transition) → AllFittingReplies run → AllFittingReplies (transitions_of who run)
+fitting_own who [] fitting_replies = tt
+fitting_own who (m ∷ run) fitting_replies = elim (cases_eq m.who who) [
+  | inl same ↦ rw (eq-eqb m.who who same) (fitting_replies.0, fitting_own who run fitting_replies.1)
+  | inr other ↦ rw (ne_eqb m.who who other) (fitting_own who run fitting_replies.1)
 ]
 
 -- the replies to a report's lines, by processor
 abbrev pub replies_in_report : Report → List (List LineReply)
-replies_in_report report = map (λ lines. answers_in lines.items) report.lines.items
+replies_in_report report = map (λ lines. replies_of_lines lines.items) report.lines.items
 
 module _ (config : Configuration) (report : Report) (lawful : IsLawful config) (is : IsReportOfOneOrder config report) where
   -- the transitions of each processor in the report's order
@@ -62,7 +62,7 @@ module _ (config : Configuration) (report : Report) (lawful : IsLawful config) (
             one.count
             (λ who d less. one.traces who (slice_index_or (replies_in_report report) who d)
             (slice_get-get_or (replies_in_report report) who d (subst (λ (n : ℕ). who < n) (sym one.count) less)));
-        turned = each_value (λ who run. AllTurned run) (λ who. transitions_of who is.run) k (λ who less. turned_own who is.run (run_turned config report lawful is));
+        fitting_replies = each_value (λ who run. AllFittingReplies run) (λ who. transitions_of who is.run) k (λ who less. fitting_own who is.run (run_turned config report lawful is));
       }
 
 -- the zero memory of a board has the board's size
@@ -87,7 +87,7 @@ new_mailbox there m lies =
 
 -- what holds for each processor's replies holds for the replies in each processor's lines of the report
 pub reported_each : (report : Report) (P : ℕ → List LineReply → Type 0) → Each P (replies_in_report report)
-    → Each (λ who lines. P who (answers_in lines.items)) report.lines.items
+    → Each (λ who lines. P who (replies_of_lines lines.items)) report.lines.items
 reported_each report P each who d below =
-    subst (P who) (get_or-map (λ lines. answers_in lines.items) report.lines.items who d [] below)
-    (each who [] (subst (λ (n : ℕ). who < n) (sym (length-map report.lines.items (λ lines. answers_in lines.items))) below))
+    subst (P who) (get_or-map (λ lines. replies_of_lines lines.items) report.lines.items who d [] below)
+    (each who [] (subst (λ (n : ℕ). who < n) (sym (length-map report.lines.items (λ lines. replies_of_lines lines.items))) below))

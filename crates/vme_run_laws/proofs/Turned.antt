@@ -8,8 +8,8 @@ use Rattle.vme_arbiter.specs.declared.command.ArbReply.{ArbReply}
 use Rattle.vme_arbiter.specs.declared.command.ArbReply.TheVariants as arb_replies
 use Rattle.vme_arbiter.specs.Arbitration.{Arbitration, arbiter_step}
 use Rattle.vme_arbiter.specs.Orderly.{IsOrderly}
-use Rattle.vme_arbiter.specs.Masters.{StandsAsReplied}
-use Rattle.vme_arbiter.proofs.lemmas.Turns.{other-turn, holds-holder}
+use Rattle.vme_arbiter.specs.Masters.{MatchesReply}
+use Rattle.vme_arbiter.proofs.lemmas.Turns.{other-reply, holds-holder}
 use Rattle.vme_core.specs.declared.event.EventReply.{EventReply}
 use Rattle.vme_core.specs.declared.event.EventReply.TheVariants as event_replies
 use Rattle.vme_core.specs.Runs.{Machine}
@@ -24,7 +24,7 @@ use Rattle.vme_line_task.specs.Scripts.{slot_at}
 use Rattle.vme_line_task.specs.Tables.{line_next}
 use Rattle.vme_line_task.specs.Traces.{ScriptState}
 use Rattle.vme_line_task.specs.Tenures.{line_arb_reply, IsLocal, IsGranted}
-use Rattle.vme_line_task.proofs.lemmas.Kept.{line_first, line_turns, line_holds, line_turn, line_datum}
+use Rattle.vme_line_task.proofs.lemmas.Kept.{line_first, line_command_allowed, line_holds, line_slot_state, line_datum}
 use Rattle.vme_stepper.specs.Turns.{script_state, settled, call_made, turn_by, script_state_turn, lines_left}
 use Rattle.vme_run_laws.specs.TurnCalls.{call_or, first_call}
 use Rattle.vme_run_laws.proofs.Places.{lawful_slot, lawful_level, left_after, AllOwn}
@@ -36,14 +36,14 @@ use Rattle.vme_run_laws.proofs.Standing.{arb_reply_left, IsOpen, ScriptStands, a
 pub record Stays (config : Configuration) (board : ℕ) (before : Arbitration) (after : Machine × ScriptState) : Type 0 where
   pub orderly : IsOrderly after.0.bus.object
   pub own : ScriptStands config after.0.bus.object board after.1
-  pub others : (slot : ℕ) (last : Option ArbReply) → slot_at config board ≢ slot → StandsAsReplied before slot last
-      → StandsAsReplied after.0.bus.object slot last
+  pub others : (slot : ℕ) (last : Option ArbReply) → slot_at config board ≢ slot → MatchesReply before slot last
+      → MatchesReply after.0.bus.object slot last
 
 module _ (config : Configuration) (lawful : IsLawful config) (board : ℕ) (there : board < length config.boards) where
   -- a call of the next line on a board keeps the agreement of `Stays`
   board_call_stays : (machine : Machine) (c : ScriptState) (line : Line) (rest : List Line) (x : ℕ) (command : Option Command)
       → lines_left config board c ≡ line ∷ rest → IsOrderly machine.bus.object → All IsGranted c.ended
-      → StandsAsReplied machine.bus.object (slot_at config board) (line_arb_reply config board line c.replies)
+      → MatchesReply machine.bus.object (slot_at config board) (line_arb_reply config board line c.replies)
       → line_next config board line c.replies ≡ Invokes (OnBoard x command)
       → Stays config board machine.bus.object (call_made config board line machine c (OnBoard x command))
   board_call_stays machine c line rest x command left orderly granted stands made =
@@ -54,41 +54,41 @@ module _ (config : Configuration) (lawful : IsLawful config) (board : ℕ) (ther
       let own : ScriptStands config machine.bus.object board
       (settled c.ended (event_replies.Board called.reply ∷ c.replies) (line_next config board line (event_replies.Board called.reply ∷ c.replies))) =
       settled_stands config machine.bus.object board c.ended c.replies line rest (OnBoard x command) (event_replies.Board called.reply) _ left made
-      called.good (subst (StandsAsReplied machine.bus.object (slot_at config board)) (sym same_arb_reply) stands) granted refl in
+      called.good (subst (MatchesReply machine.bus.object (slot_at config board)) (sym same_arb_reply) stands) granted refl in
       let settled_by = λ (reply : EventReply). settled c.ended (reply ∷ c.replies) (line_next config board line (reply ∷ c.replies)) in
       record {
         orderly = subst IsOrderly (sym same) orderly;
         own = subst (λ (bus : Arbitration). ScriptStands config bus board (settled_by step.1)) (sym same)
             (subst (λ (reply : EventReply). ScriptStands config machine.bus.object board (settled_by reply)) (sym called.replied) own);
-        others = λ slot last apart was. subst (λ (bus : Arbitration). StandsAsReplied bus slot last) (sym same) was;
+        others = λ slot last apart was. subst (λ (bus : Arbitration). MatchesReply bus slot last) (sym same) was;
       }
 
   -- a command of the next line to the arbiter keeps the agreement of `Stays`
   bus_call_stays : (machine : Machine) (c : ScriptState) (line : Line) (rest : List Line) (cmd : ArbCmd)
       → lines_left config board c ≡ line ∷ rest
       → IsOrderly machine.bus.object → All IsGranted c.ended
-      → StandsAsReplied machine.bus.object (slot_at config board) (line_arb_reply config board line c.replies)
+      → MatchesReply machine.bus.object (slot_at config board) (line_arb_reply config board line c.replies)
       → line_next config board line c.replies ≡ Invokes (OnBus cmd)
       → Stays config board machine.bus.object (call_made config board line machine c (OnBus cmd))
   bus_call_stays machine c line rest cmd left orderly granted stands made =
       let bus = machine.bus.object in
-      let may = line_turns config board line c.replies cmd (lawful_level config board lawful there) made in
+      let may = line_command_allowed config board line c.replies cmd (lawful_level config board lawful there) made in
       let called = bus_called bus (slot_at config board) (line_arb_reply config board line c.replies) cmd orderly
       (lawful_slot config board lawful there) stands may in
       record {
         orderly = called.orderly;
         own = settled_stands config (arbiter_step bus cmd).0 board c.ended c.replies line rest (OnBus cmd) (event_replies.Bus (arbiter_step bus cmd).1) _ left
             made called.good
-            (line_turn config board line c.replies cmd (arbiter_step bus cmd).1 (arbiter_step bus cmd).0 (slot_at config board) made called.good
+            (line_slot_state config board line c.replies cmd (arbiter_step bus cmd).1 (arbiter_step bus cmd).0 (slot_at config board) made called.good
             called.stands) granted refl;
-        others = λ slot last apart was. other-turn bus slot last cmd (λ same. apart (sym called.own ∙ same)) was;
+        others = λ slot last apart was. other-reply bus slot last cmd (λ same. apart (sym called.own ∙ same)) was;
       }
 
   -- each call of the next line keeps the agreement of `Stays`
   call_stays : (machine : Machine) (c : ScriptState) (line : Line) (rest : List Line) (call : Call)
       → lines_left config board c ≡ line ∷ rest
       → IsOrderly machine.bus.object → All IsGranted c.ended
-      → StandsAsReplied machine.bus.object (slot_at config board) (line_arb_reply config board line c.replies)
+      → MatchesReply machine.bus.object (slot_at config board) (line_arb_reply config board line c.replies)
       → line_next config board line c.replies ≡ Invokes call
       → Stays config board machine.bus.object (call_made config board line machine c call)
   call_stays machine c line rest (OnBoard x command) left orderly granted stands made =
@@ -104,8 +104,8 @@ module _ (config : Configuration) (lawful : IsLawful config) (board : ℕ) (ther
   refused_stands bus c line rest answer left stands ends =
       let opens : IsOpen config board (line ∷ rest) c.replies = subst (λ (ls : List Line). IsOpen config board ls c.replies) left stands.opens in
       let none = ended_begins config board line rest c.replies answer opens ends in
-      let free : StandsAsReplied bus (slot_at config board) None =
-      subst (StandsAsReplied bus (slot_at config board))
+      let free : MatchesReply bus (slot_at config board) None =
+      subst (MatchesReply bus (slot_at config board))
       (ap (arb_reply_left config board (lines_left config board c)) none ∙ arb_reply_begins config board (lines_left config board c)) stands.stands in
       rests_standing config bus board (c.ended ++ answer ∷ []) free
       (All-push IsGranted c.ended answer stands.granted
@@ -120,7 +120,7 @@ module _ (config : Configuration) (lawful : IsLawful config) (board : ℕ) (ther
       → Stays config board machine.bus.object (turn_by config board line machine c next after)
   by_next machine c line rest (Invokes call) after left orderly stands is then =
       call_stays machine c line rest call left orderly stands.granted
-      (subst (λ (ls : List Line). StandsAsReplied machine.bus.object (slot_at config board) (arb_reply_left config board ls c.replies)) left stands.stands) is
+      (subst (λ (ls : List Line). MatchesReply machine.bus.object (slot_at config board) (arb_reply_left config board ls c.replies)) left stands.stands) is
   by_next machine c line rest (Returns answer) after left orderly stands is then =
       then (script_state (c.ended ++ answer ∷ []) []) (left_after config board c.ended answer line rest left)
       (refused_stands machine.bus.object c line rest answer left stands is)
@@ -139,32 +139,32 @@ module _ (config : Configuration) (lawful : IsLawful config) (board : ℕ) (ther
 
   -- a property of the first line's call, and of the later lines' first call, holds for the next call
   by_first : (Q : Call → Type 0) (bus : Arbitration) (line : Line) (rest : List Line) (replies : List EventReply) (call : Call) (next : NextStep LineReply)
-      → StandsAsReplied bus (slot_at config board) (line_arb_reply config board line replies)
+      → MatchesReply bus (slot_at config board) (line_arb_reply config board line replies)
       → IsOpen config board (line ∷ rest) replies
       → line_next config board line replies ≡ next → call_or next (first_call config board rest []) ≡ Some call
       → ((made : Call) → line_next config board line replies ≡ Invokes made → Q made)
-      → (first_call config board rest [] ≡ Some call → StandsAsReplied bus (slot_at config board) None → Q call) → Q call
+      → (first_call config board rest [] ≡ Some call → MatchesReply bus (slot_at config board) None → Q call) → Q call
   by_first Q bus line rest replies call (Invokes made) stands opens is first now later =
       let same : made ≡ call = cc in
       subst Q same (now made is)
   by_first Q bus line rest replies call (Returns answer) stands opens is first now later =
       let none = ended_begins config board line rest replies answer opens is in
-      later first (subst (StandsAsReplied bus (slot_at config board)) (ap (line_arb_reply config board line) none ∙ arb_reply_begins config board (line ∷ rest)) stands)
+      later first (subst (MatchesReply bus (slot_at config board)) (ap (line_arb_reply config board line) none ∙ arb_reply_begins config board (line ∷ rest)) stands)
   by_first Q bus line rest replies call NotStarted stands opens is first now later = absurd cc
 
   -- a property of each line's call holds for the next call of these lines
   pub first_is : (Q : Call → Type 0) (bus : Arbitration)
       → ((line : Line) (replies : List EventReply) (made : Call) → IsOwnLine line
-      → StandsAsReplied bus (slot_at config board) (line_arb_reply config board line replies) → line_next config board line replies ≡ Invokes made → Q made)
+      → MatchesReply bus (slot_at config board) (line_arb_reply config board line replies) → line_next config board line replies ≡ Invokes made → Q made)
       → (lines : List Line) (replies : List EventReply) (call : Call) → AllOwn lines
-      → StandsAsReplied bus (slot_at config board) (arb_reply_left config board lines replies) → IsOpen config board lines replies
+      → MatchesReply bus (slot_at config board) (arb_reply_left config board lines replies) → IsOpen config board lines replies
       → first_call config board lines replies ≡ Some call → Q call
   first_is Q bus each [] replies call own stands opens first = absurd cc
   first_is Q bus each (line ∷ rest) replies call own stands opens first =
       by_first Q bus line rest replies call (line_next config board line replies) stands opens refl first
       (λ made is. each line replies made own.0 stands is)
       (λ later free. first_is Q bus each rest [] call own.1
-      (subst (StandsAsReplied bus (slot_at config board)) (sym (arb_reply_begins config board rest)) free) (opens_begins config board rest) later)
+      (subst (MatchesReply bus (slot_at config board)) (sym (arb_reply_begins config board rest)) free) (opens_begins config board rest) later)
 
   -- a call on a board is one of the local port, or the slot holds the bus
   abbrev pub HoldsFor : Arbitration → Call → Type 0
@@ -173,7 +173,7 @@ module _ (config : Configuration) (lawful : IsLawful config) (board : ℕ) (ther
 
   -- each call of a line is one of the local port, or its slot holds the bus
   pub call_holds : (bus : Arbitration) (line : Line) (replies : List EventReply) (call : Call) → IsOwnLine line
-      → StandsAsReplied bus (slot_at config board) (line_arb_reply config board line replies)
+      → MatchesReply bus (slot_at config board) (line_arb_reply config board line replies)
       → line_next config board line replies ≡ Invokes call
       → HoldsFor bus call
   call_holds bus line replies (OnBus cmd) own stands made = tt
@@ -181,19 +181,19 @@ module _ (config : Configuration) (lawful : IsLawful config) (board : ℕ) (ther
       elim (line_holds config board line replies x command own made) [
         | inl local ↦ inl local
         | inr held ↦ inr (holds-holder bus (slot_at config board)
-            (subst (StandsAsReplied bus (slot_at config board)) held stands))
+            (subst (MatchesReply bus (slot_at config board)) held stands))
       ]
 
   -- the reply to a call of a line is no denial
   pub replied_granted : (machine : Machine) → IsOrderly machine.bus.object
       → (line : Line) (replies : List EventReply) (call : Call)
-      → IsOwnLine line → StandsAsReplied machine.bus.object (slot_at config board) (line_arb_reply config board line replies)
+      → IsOwnLine line → MatchesReply machine.bus.object (slot_at config board) (line_arb_reply config board line replies)
       → line_next config board line replies ≡ Invokes call
       → (machine_step machine board call).1 ≢ event_replies.Bus arb_replies.Denied
   replied_granted machine orderly line replies call own stands made =
       call_granted machine board (slot_at config board) (line_arb_reply config board line replies) call orderly
       (lawful_slot config board lawful there) stands
-      (λ cmd same. line_turns config board line replies cmd (lawful_level config board lawful there) (made ∙ ap Invokes same))
+      (λ cmd same. line_command_allowed config board line replies cmd (lawful_level config board lawful there) (made ∙ ap Invokes same))
 
 -- the machine after a call, if there is one
 abbrev pub machine_called : Machine → Option (ℕ × Call) → Machine

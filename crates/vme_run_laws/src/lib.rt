@@ -12,7 +12,7 @@ pub use order_laws::{
     blocks_do_not_interleave, data_move_for_the_holder, each_transition_is_a_turn,
 };
 pub use queue_laws::{declared_mailboxes_are_queues, texts_show_queues};
-pub use thread_laws::{each_line_comes_to_its_end, no_line_is_denied, the_arbiter_denies_nobody};
+pub use thread_laws::{no_line_is_denied, no_line_is_unfinished, the_arbiter_denies_no_command};
 pub use turn_laws::{
-    a_turn_makes_its_call_alone, commands_are_the_holders, turns_are_a_run_of_moves,
+    a_turn_makes_its_call_alone, commands_are_the_holders, turns_are_a_run_of_transitions,
 };

@@ -14,7 +14,7 @@ ghost use Rattle.vme_line_task.specs.Scripts.{lines_at};
 ghost use Rattle.vme_mailbox_laws.specs.Names.{lines_put, lines_taken};
 ghost use Rattle.vme_mailbox_laws.specs.Groups.{own_words_put, own_words_taken};
 ghost use Rattle.vme_threads.specs.declared.report.Report.{Report};
-ghost use Rattle.vme_threads.specs.Rans.{answers_in};
+ghost use Rattle.vme_threads.specs.Rans.{replies_of_lines};
 ghost use Rattle.vme_threads.specs.OneOrder.{IsReportOfOneOrder};
 ghost use Rattle.vme_engines.specs.RunTexts.{IsRunText};
 ghost use Rattle.vme_run_laws.specs.Declared.{IsDeclaredIn};
@@ -49,13 +49,13 @@ pub fn declared_mailboxes_are_queues()
         (h : List (Entry BoardCmd Reply)) → IsLawful config →
         IsDeclaredIn config report is box m h →
         Each (λ who lines. own_words_put who m h
-        ≡ lines_put box (lines_at config who) (answers_in lines.items)) report.lines.items }
+        ≡ lines_put box (lines_at config who) (replies_of_lines lines.items)) report.lines.items }
     ensures taken { (config : Configuration) (report : Report)
         (is : IsReportOfOneOrder config report) (box : ℕ) (m : BoardMailbox)
         (h : List (Entry BoardCmd Reply)) → IsLawful config →
         IsDeclaredIn config report is box m h →
         Each (λ who lines. own_words_taken who m h
-        ≡ lines_taken box (lines_at config who) (answers_in lines.items)) report.lines.items }
+        ≡ lines_taken box (lines_at config who) (replies_of_lines lines.items)) report.lines.items }
 {}
 
 /// If `run_engine` returns `Ok`, it has written the text of a report of one order of the
@@ -90,13 +90,13 @@ pub fn texts_show_queues()
         (h : List (Entry BoardCmd Reply)) →
         IsDeclaredIn reported.config reported.report reported.order box m h →
         Each (λ who lines. own_words_put who m h
-        ≡ lines_put box (lines_at reported.config who) (answers_in lines.items))
+        ≡ lines_put box (lines_at reported.config who) (replies_of_lines lines.items))
         reported.report.lines.items }
     ensures taken { (input text : List ℕ) (status : Status)
         (reported : IsRunText input text status) (box : ℕ) (m : BoardMailbox)
         (h : List (Entry BoardCmd Reply)) →
         IsDeclaredIn reported.config reported.report reported.order box m h →
         Each (λ who lines. own_words_taken who m h
-        ≡ lines_taken box (lines_at reported.config who) (answers_in lines.items))
+        ≡ lines_taken box (lines_at reported.config who) (replies_of_lines lines.items))
         reported.report.lines.items }
 {}

@@ -17,7 +17,7 @@ ghost use Rattle.vme_run_laws.specs.Finished.{AreFinished};
 ghost use Rattle.vme_run_laws.specs.Granted.{AreGranted};
 
 /// No line of a report of one order is unfinished, whatever the configuration.
-pub fn each_line_comes_to_its_end()
+pub fn no_line_is_unfinished()
     ensures { (config : Configuration) (report : Report) → IsReportOfOneOrder config report →
         Each (λ who lines. AreFinished lines.items) report.lines.items }
 {}
@@ -33,7 +33,7 @@ pub fn no_line_is_denied()
 /// which each processor's commands name one slot, its own, and follow its last reply, with slots
 /// and levels in range. Then no reply is `Denied`. In the part of the arbiter in a report of one
 /// order of a lawful configuration, no reply is `Denied` either.
-pub fn the_arbiter_denies_nobody()
+pub fn the_arbiter_denies_no_command()
     ensures law { (kind : ArbiterKind) (k : ℕ) (slots : ℕ → ℕ) (h : List (Entry ArbCmd ArbReply)) →
         IsLegal arbiter_step (opening_bus kind) h → FollowReplies k slots h →
         All (λ e. e.reply ≢ Denied) h }

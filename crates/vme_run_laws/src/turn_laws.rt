@@ -46,7 +46,7 @@ pub fn commands_are_the_holders()
 /// The turns of a lawful configuration are a run of transitions, with at most one transition for
 /// each turn. Each board and the arbiter are in the state that their own part of the run leads to,
 /// and have counted that part. Each processor has followed its script by its own transitions.
-pub fn turns_are_a_run_of_moves()
+pub fn turns_are_a_run_of_transitions()
     ensures { (config : Configuration) (slots : List ℕ) → IsLawful config →
         (run : List Transition) × AreRun config slots run }
 {}

@@ -4,14 +4,13 @@ use Rattle.std.specs.List.{list_all}
 use Rattle.std.proofs.lemmas.Bool.{and_parts}
 use Rattle.std.specs.Prelude.{nat_lt, nat_le, not, ◌&&◌, is_ok}
 use Rattle.vme_decode.specs.declared.entry.Entry.{Entry}
-use Rattle.vme_decode.specs.Lawful.{some_overlap}
 use Rattle.vme_memory.specs.declared.class.Class.{Class}
 use Rattle.vme_script.specs.declared.board.BoardConfig.{BoardConfig}
 use Rattle.vme_script.specs.declared.fault.ConfigFault.{ConfigFault}
-use Rattle.vme_script.specs.declared.fault.ConfigFault.TheVariants.{BadSlot, BadLevel, Overlap}
+use Rattle.vme_script.specs.declared.fault.ConfigFault.TheVariants.{BadSlot, BadLevel}
 use Rattle.vme_script.specs.Answers.{◌>>=◌, refuse}
 use Rattle.vme_config_toml.specs.Files.{BoardValues}
-use Rattle.vme_script.specs.Boards.{entry_of, class_of, range_refused, board_config, boards_after, have_ranges, map_of}
+use Rattle.vme_script.specs.Boards.{entry_of, class_of, range_refused, board_config, boards_after, have_ranges}
 use Rattle.vme_script.specs.Scripts.{has_slots}
 
 -- a Boolean whose negation is false is true
@@ -28,11 +27,13 @@ record Parts (slot level : Bool) (range : Entry → Result (Unit {0}) ConfigFaul
   range_lawful : is_ok (range entry) ≡ true
   made : config ≡ make entry class
 
+-- if a range check and a value give a value, the check succeeded and the value is that one
 ranged :
     (answer : Result (Unit {0}) ConfigFault) (config made : BoardConfig) → (answer >>= (λ _. Ok made)) ≡ Ok config → (is_ok answer ≡ true) × (config ≡ made)
 ranged (Ok u) config made e = (refl, cc)
 ranged (Err fault) config made e = cc
 
+-- if the checks of a board give a configuration, no refusal applies to its parts
 parts :
     (slot level : Bool) (entry : Result Entry ConfigFault) (class : Result Class ConfigFault) (range : Entry → Result (Unit {0}) ConfigFault)
     (make : Entry → Class → BoardConfig) (config : BoardConfig)
@@ -46,6 +47,7 @@ parts false false (Ok x) (Ok y) range make config e =
     let last = ranged (range x) config (make x y) e in
     record { entry = x; class = y; slot_lawful = refl; level_lawful = refl; range_lawful = last.0; made = last.1 }
 
+-- the parts of a configured board, by the checks of `board_config`
 board_parts :
     (before : ℕ) (board : BoardValues) (config : BoardConfig) → board_config before board ≡ Ok config
     → Parts (not (nat_lt before board.slot && nat_le board.slot 21)) (nat_lt 3 board.level) range_refused
@@ -62,7 +64,7 @@ more_parts (Err fault) others boards e = cc
 more_parts (Ok x) (Err fault) boards e = cc
 more_parts (Ok x) (Ok xs) boards e = (x, xs, refl, refl, cc)
 
--- slots that ascend and are above the given one
+-- whether the slots of boards ascend and are above the given one
 abbrev pub ascend : ℕ → List BoardConfig → Bool
 ascend before [] = true
 ascend before (board ∷ more) = nat_lt before board.slot && ascend board.slot more
@@ -78,7 +80,7 @@ pub record Known (before : ℕ) (values : List BoardValues) (boards : List Board
   pub ascending : ascend before boards ≡ true
   pub slots : has_slots values ≡ true
 
--- the facts hold of a configured board and the boards after it
+-- if the facts hold for the boards after a configured board, they hold for it and these boards
 one_more :
     (before : ℕ) (value : BoardValues) (values : List BoardValues) (x : BoardConfig) (xs : List BoardConfig)
     → board_config before value ≡ Ok x → Known value.slot values xs → Known before (value ∷ values) (x ∷ xs)
@@ -92,7 +94,7 @@ one_more before value values x xs first others =
       slots = rw within.1 others.slots;
     }
 
--- the facts hold of the boards of each configuration
+-- the facts hold for boards that are configured
 pub boards_known : (before : ℕ) (values : List BoardValues) (boards : List BoardConfig) → boards_after before values ≡ Ok boards → Known before values boards
 boards_known before [] boards e =
     let none : [] ≡ boards = cc in
@@ -108,12 +110,3 @@ ranges_known (board ∷ boards) lawful =
     let p = and_parts (is_lawful board) (list_all is_lawful boards) lawful in
     let q = and_parts (nat_le board.slot 21 && not (nat_lt 3 board.level)) (is_ok (range_refused board.entry)) p.0 in
     rw q.1 (ranges_known boards p.1)
-
--- a map equals the ranges that it was made of
-pub map_known : (entries map : List Entry) → map_of entries ≡ Ok map → map ≡ entries
-unfolding map_of
-map_known entries map e = made (some_overlap entries) entries map e
-  where
-    made : (overlap : Bool) (entries map : List Entry) → (refuse overlap Overlap >>= (λ _. Ok entries)) ≡ Ok map → map ≡ entries
-    made true entries map e = cc
-    made false entries map e = cc

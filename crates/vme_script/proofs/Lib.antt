@@ -7,5 +7,5 @@ pub mod Lists
 pub mod Maps
 pub mod Facts
 pub mod Scripts
-pub mod Sites
+pub mod DeclaredMailboxes
 pub mod Taking

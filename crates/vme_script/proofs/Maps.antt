@@ -16,13 +16,13 @@ use Rattle.vme_script.specs.declared.fault.ConfigFault.{ConfigFault}
 use Rattle.vme_script.specs.Answers.{◌>>=◌, refuse}
 use Rattle.vme_script.specs.Boards.{range_refused, entries_of, have_ranges}
 
--- refusals none of which holds can be dropped
+-- refusals none of which applies can be dropped from the start of a list
 first_of-append : (none more : List (Option MapFault)) → first_of none ≡ None → first_of (none ++ more) ≡ first_of more
 first_of-append [] more clear = refl
 first_of-append (None ∷ none) more clear = first_of-append none more clear
 first_of-append (Some fault ∷ none) more clear = cc
 
--- if none of three refusals holds, none of the last two does
+-- if none of three refusals applies, neither of the last two tests holds
 last_two : (a b c : Bool) (e f g : ConfigFault) → is_ok (refuse a e >>= (λ _. refuse b f >>= (λ _. refuse c g))) ≡ true → (b ≡ false) × (c ≡ false)
 last_two true b c e f g ok = absurd (false≢true ok)
 last_two false true c e f g ok = absurd (false≢true ok)
@@ -36,6 +36,7 @@ own_refusals entry ok =
     let two = last_two (not (is_board_size entry.size)) (not (entry.base % 4 == 0)) (nat_lt (addresses_of entry.space) (end_of entry)) _ _ _ ok in
     rw (two.0, two.1) refl
 
+-- ranges that are each lawful by themselves have no refusal of their own in a map
 no_refusals : (boards : List BoardConfig) → have_ranges boards ≡ true → first_of (flat_map entry_refusals (entries_of boards)) ≡ None
 no_refusals [] ok = refl
 no_refusals (board ∷ boards) ok =

@@ -19,9 +19,9 @@ three_tests true true true made found e = (refl, refl, refl, cc)
 -- a mailbox made from a table has lawful numbers
 pub numbers_known : (table : MailboxTable) (mailbox : Mailbox) → mailbox_from_table table ≡ Some mailbox → HasNumbers mailbox
 unfolding mailbox_from_table
-numbers_known table mailbox reported =
+numbers_known table mailbox result_is =
     let parts = three_tests (is_mailbox_code table.am) (table.addr % 4 == 0) (nat_le 1 table.slots && nat_le table.slots 64)
-    (record { am = table.am; addr = table.addr; slots = table.slots }) mailbox reported in
+    (record { am = table.am; addr = table.addr; slots = table.slots }) mailbox result_is in
     let slots = and_parts (nat_le 1 table.slots) (nat_le table.slots 64) parts.2 in
     subst HasNumbers parts.3 (record {
       code = parts.0;

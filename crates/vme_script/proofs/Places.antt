@@ -10,8 +10,8 @@ use Rattle.vme_am.specs.Spaces.{addresses_of}
 use Rattle.vme_am.specs.Codes.{CodeRow, read_code}
 use Rattle.vme_decode.specs.declared.entry.Entry.{Entry}
 use Rattle.vme_decode.specs.Entries.{end_of}
-use Rattle.vme_decode.specs.Select.{selection_at, FallsTo}
-use Rattle.vme_decode.proofs.lemmas.Selection.{place_falls}
+use Rattle.vme_decode.specs.Select.{selection_at, RespondsAt}
+use Rattle.vme_decode.proofs.lemmas.Selection.{place_responds}
 use Rattle.vme_script.specs.declared.board_range.BoardRange.{BoardRange}
 use Rattle.vme_script.specs.BoardRanges.{range_by, range_at, share}
 
@@ -31,18 +31,20 @@ most_addresses A16 = omega arith
 most_addresses A24 = omega arith
 most_addresses A32 = omega arith
 
+-- if a selection gives a range, the code and the address select its board and its offset, and it has the given length
 selected :
     (entries : List Entry) (code : CodeRow) (addr len : ℕ) (place : BoardRange) (found : Option (ℕ × ℕ)) → selection_at entries code addr ≡ found
     → option_map (λ at. record { board = at.0; offset = at.1; len = len }) found ≡ Some place
-    → FallsTo entries code addr place.board place.offset × (place.len ≡ len)
+    → RespondsAt entries code addr place.board place.offset × (place.len ≡ len)
 selected entries code addr len place None is e = cc
 selected entries code addr len place (Some at) is e =
     let same : record { board = at.0; offset = at.1; len = len } ≡ place = cc in
-    rw (← same) (place_falls entries code addr at.0 at.1 is, refl)
+    rw (← same) (place_responds entries code addr at.0 at.1 is, refl)
 
+-- a range at an address has a lawful code, which selects its board and its offset with the address
 by_code :
     (entries : List Entry) (read : Result CodeRow AmFault) (addr len : ℕ) (place : BoardRange) → range_by entries read addr len ≡ Some place
-    → (code : CodeRow) × FallsTo entries code addr place.board place.offset × (place.len ≡ len)
+    → (code : CodeRow) × RespondsAt entries code addr place.board place.offset × (place.len ≡ len)
 by_code entries (Err fault) addr len place e = cc
 by_code entries (Ok code) addr len place e =
     let found = selected entries code addr len place (selection_at entries code addr) refl e in

@@ -10,33 +10,33 @@ use Rattle.vme_script.proofs.Asked.{empty, forbidden, allowed}
 use Rattle.vme_script.specs.declared.fault.ScriptRefusal.{ScriptRefusal}
 use Rattle.vme_script.specs.declared.fault.ScriptRefusal.TheVariants.{BadLine}
 use Rattle.vme_script.specs.declared.script.ScriptLine.{ScriptLine}
-use Rattle.vme_script.specs.Scripts.{numbered, with_line, lines_from, IsTaken}
+use Rattle.vme_script.specs.Scripts.{numbered, with_line, lines_from, IsProcessed}
 
 -- a line that was parsed and appended is processed, with the refusal of its context
 pub kept :
     (rules : ScriptContext) (number : ℕ) (text : List ℕ) (line : Line) (before after : List ScriptLine) (refusal : Option LineFault)
     → line_of text ≡ Ok (Some line) → after ≡ before ++ record { number = number; line = line } ∷ [] → refusal ≡ refusal_of rules line
-    → IsTaken rules number text before after refusal
+    → IsProcessed rules number text before after refusal
 kept rules number text line before after None read added is = (Some line, allowed rules text line read (sym is), added)
 kept rules number text line before after (Some fault) read added is = forbidden rules text line fault read (sym is)
 
 -- a line that requests nothing is processed without an entry
 pub passed_over :
     (rules : ScriptContext) (number : ℕ) (text : List ℕ) (before after : List ScriptLine) → line_of text ≡ Ok None → after ≡ before
-    → IsTaken rules number text before after None
+    → IsProcessed rules number text before after None
 passed_over rules number text before after read same = (None, empty rules text read, same ∙ sym (append-nil before))
 
--- to put two lists of lines before others is to put the second before them and then the first
+-- two lists of lines before others are the second list before them, with the first list before that
 with_line-append :
     (first second : List ScriptLine) (others : Result (List ScriptLine) ScriptRefusal)
     → with_line (first ++ second) others ≡ with_line first (with_line second others)
 with_line-append first second (Ok others) = ap Ok (append_assoc first second others)
 with_line-append first second (Err refusal) = refl
 
--- after a processed line, the entries so far and those of the lines that are left give the script
+-- after a processed line, the entries so far and those of the remaining lines give the script
 pub taken :
     (rules : ScriptContext) (number : ℕ) (text : List ℕ) (more : List (List ℕ)) (before after : List ScriptLine) (refusal : Option LineFault)
-    → refusal ≡ None → IsTaken rules number text before after refusal
+    → refusal ≡ None → IsProcessed rules number text before after refusal
     → with_line after (lines_from rules (number + 1) more) ≡ with_line before (lines_from rules number (text ∷ more))
 taken rules number text more before after None none (asked, read, added) =
     rw (read, added) (with_line-append before (numbered number asked) (lines_from rules (number + 1) more))
@@ -45,6 +45,6 @@ taken rules number text more before after (Some fault) none is = absurd (cc)
 -- a line that is refused gives the script's refusal
 pub untaken :
     (rules : ScriptContext) (number : ℕ) (text : List ℕ) (more : List (List ℕ)) (before after : List ScriptLine) (fault : LineFault)
-    → IsTaken rules number text before after (Some fault)
+    → IsProcessed rules number text before after (Some fault)
     → with_line before (lines_from rules number (text ∷ more)) ≡ Err (BadLine number fault)
 untaken rules number text more before after fault is = rw is refl

@@ -15,8 +15,8 @@ use Rattle.vme_grammar.specs.declared.line.Line.TheVariants.{Bus, Local, Await, 
 use Rattle.vme_shared.specs.Mailboxes.{set_lock, clear_lock}
 use Rattle.vme_script.specs.declared.board_range.BoardRange.{BoardRange}
 
--- the bytes of a lawful request, whatever its reply: all of them count on the board that the first one selects; a
--- refused request has none
+-- the bytes of a lawful request, whatever its reply, as a range on the board that the first byte selects; a refused
+-- request has none
 abbrev pub transfer_bytes : List Entry → Result Transfer CycleFault → Option BoardRange
 transfer_bytes entries (Ok t) =
     option_map (λ found. record { board = found.0; offset = found.1; len = span_of t.request })

@@ -15,7 +15,7 @@ use Rattle.vme_script.specs.declared.context.ScriptContext.{ScriptContext}
 use Rattle.vme_script.specs.declared.context.ScriptContext.TheVariants.{Alone, InFile}
 use Rattle.vme_script.specs.Declarations.{Declaration}
 use Rattle.vme_script.specs.Bytes.{line_bytes}
-use Rattle.vme_script.specs.MailboxNumbers.{may_ask}
+use Rattle.vme_script.specs.MailboxNumbers.{may_name}
 use Rattle.vme_script.specs.BoardRanges.{range_of, share}
 
 -- the mailboxes that a script may name: in a file those that the file declares
@@ -39,7 +39,7 @@ touches (InFile file) line = option_map_or (are_of_mailboxes file) (line_bytes f
 -- the refusal of a line in a context: first for an undeclared mailbox, then for bytes of a declared one
 abbrev pub refusal_of : ScriptContext → Line → Option LineFault
 refusal_of rules line =
-    if may_ask (boxes_of rules) line then (if touches rules line then Some MailboxBytes else None) else Some BadNumber
+    if may_name (boxes_of rules) line then (if touches rules line then Some MailboxBytes else None) else Some BadNumber
 
 -- a line, or its refusal if it has one
 abbrev pub unless_refused : Option LineFault → Line → Result (Option Line) LineFault

@@ -1,4 +1,4 @@
--- What holds of every configuration.
+-- What holds for every configuration.
 use Rattle.std.specs.Prelude.{◌≡◌, ℕ, ◌+◌, ◌<◌, ◌≤◌, nat_le, true, false, List, length, Some, None, slice_get}
 use Rattle.std.specs.List.{list_all}
 use Rattle.vme_decode.specs.Lawful.{first_refusal}
@@ -9,7 +9,7 @@ use Rattle.vme_shared.specs.Mailboxes.{IsMailbox}
 use Rattle.vme_script.specs.declared.mailbox_numbers.MailboxNumbers.TheVariants.{Declared}
 use Rattle.vme_script.specs.declared.board_range.BoardRange.{BoardRange}
 use Rattle.vme_script.specs.MailboxTables.{is_mailbox_code, supports_mailboxes}
-use Rattle.vme_script.specs.MailboxNumbers.{may_ask}
+use Rattle.vme_script.specs.MailboxNumbers.{may_name}
 use Rattle.vme_script.specs.BoardRanges.{range_of, share}
 use Rattle.vme_script.specs.Contexts.{touches}
 use Rattle.vme_script.specs.declared.board.BoardConfig.{BoardConfig}
@@ -26,8 +26,8 @@ pub record IsLawfulBoard (board : BoardConfig) : Type 0 where
   pub level : board.level ≤ 3
   pub size : is_board_size board.entry.size ≡ true
 
--- a mailbox with a lawful code and lawful numbers, whose bytes are wholly within one board that its code selects, which
--- has quad bytes and read-modify-writes
+-- a mailbox with a lawful code and lawful numbers; all its bytes are within one board that its code selects, and that
+-- board has quad bytes and read-modify-writes
 pub record IsLawfulMailbox (boards : List BoardConfig) (mailbox : Mailbox) : Type 0 where
   pub code : is_mailbox_code mailbox.am ≡ true
   pub numbers : IsMailbox mailbox
@@ -66,7 +66,7 @@ pub record IsLawful (config : Configuration) : Type 0 where
       → share p q ≡ true → j ≡ k
   pub named :
       (i j : ℕ) (script : List ScriptLine) (line : ScriptLine) → slice_get config.scripts i ≡ Some script
-      → slice_get script j ≡ Some line → may_ask (Declared (length config.mailboxes)) line.line ≡ true
+      → slice_get script j ≡ Some line → may_name (Declared (length config.mailboxes)) line.line ≡ true
   pub free :
       (i j : ℕ) (script : List ScriptLine) (line : ScriptLine) → slice_get config.scripts i ≡ Some script
       → slice_get script j ≡ Some line → touches (rules_of (entries_of config.boards) config.mailboxes i) line.line ≡ false

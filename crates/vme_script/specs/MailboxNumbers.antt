@@ -11,11 +11,11 @@ has_box Any number = true
 has_box (Declared count) number = nat_le 1 number && nat_le number count
 
 -- whether a line names only mailboxes that it may name; only a put and a take name one
-abbrev pub may_ask : MailboxNumbers → Line → Bool
-may_ask boxes (Bus request) = true
-may_ask boxes (Local command) = true
-may_ask boxes (Await am addr bytes) = true
-may_ask boxes (Lock am addr) = true
-may_ask boxes (Unlock am addr) = true
-may_ask boxes (Put mailbox number) = has_box boxes mailbox
-may_ask boxes (Take mailbox) = has_box boxes mailbox
+abbrev pub may_name : MailboxNumbers → Line → Bool
+may_name boxes (Bus request) = true
+may_name boxes (Local command) = true
+may_name boxes (Await am addr bytes) = true
+may_name boxes (Lock am addr) = true
+may_name boxes (Unlock am addr) = true
+may_name boxes (Put mailbox number) = has_box boxes mailbox
+may_name boxes (Take mailbox) = has_box boxes mailbox

@@ -48,10 +48,10 @@ lines_from rules number (line ∷ more) =
 
 -- a line was processed in a context: its entry, if it has one, was appended with its number, or the line has the given
 -- refusal
-abbrev pub IsTaken : ScriptContext → ℕ → List ℕ → List ScriptLine → List ScriptLine → Option LineFault → Type 0
-IsTaken rules number text before after None =
+abbrev pub IsProcessed : ScriptContext → ℕ → List ℕ → List ScriptLine → List ScriptLine → Option LineFault → Type 0
+IsProcessed rules number text before after None =
     (asked : Option Line) × (line_within rules text ≡ Ok asked) × (after ≡ before ++ numbered number asked)
-IsTaken rules number text before after (Some fault) = line_within rules text ≡ Err fault
+IsProcessed rules number text before after (Some fault) = line_within rules text ≡ Err fault
 
 -- the script of a text in a context: the text has at most 1,000 lines, empty lines and comments included
 unfoldable pub script_within : ScriptContext → List ℕ → Result (List ScriptLine) ScriptRefusal

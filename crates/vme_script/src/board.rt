@@ -1,4 +1,4 @@
-//! The boards of a configuration, and the checks of each.
+//! The boards of a configuration, and their checks.
 ghost use Rattle.std.specs.Prelude.{◌≡◌, ◌≤◌, length, true, IfOk};
 ghost use Rattle.vme_script.specs.Answers.{Gives};
 ghost use Rattle.vme_script.specs.Boards.{space_named, width_of, entry_of, class_of, range_refused, entries_of, map_of, board_config, boards_after, have_ranges};

@@ -71,7 +71,7 @@ impl Model for Config {
 }
 
 impl Config {
-    /// The configuration of a file's values, or its first refusal.
+    /// Returns the configuration of a file's values, or its first refusal.
     #[tactic(auto, unfolding(crate::specs::Configurations::configuration_of))]
     pub(crate) fn of(alloc: Global, file: &FileTable<'_>) -> Result<Config, ConfigFault>
         ensures { Gives (λ config. config) result (configuration_of file.now) }

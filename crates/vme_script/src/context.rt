@@ -123,7 +123,7 @@ impl<'a> ScriptContext<'a> {
     pub fn refusal(&self, line: &Line) -> Option<LineFault>
         ensures refusal { result ≡ refusal_of self.now line.now }
     {
-        if !self.boxes().may_ask(line) {
+        if !self.boxes().may_name(line) {
             return Some(LineFault::BadNumber);
         }
         if self.touches(line) {

@@ -9,7 +9,7 @@ ghost use Rattle.vme_script.specs.declared.board_range.BoardRange.{BoardRange};
 ghost use Rattle.vme_script.specs.MailboxTables.{mailbox_from_table, HasNumbers};
 ghost use Rattle.vme_script.specs.BoardRanges.{range_at, share};
 
-/// States that a mailbox made from a table has a mailbox's numbers: a code of data or short access,
+/// States that a mailbox made from a table has lawful numbers: a code of data or short access,
 /// an address that is a multiple of four, and 1 to 64 slots.
 pub fn tables_give_lawful_numbers()
     ensures { (table : MailboxTable) (mailbox : Mailbox) →

@@ -2,7 +2,7 @@
 //! and address ranges (ANSI/IEEE Std 1014-1987, chapters 2 and 3), the scripts of their processors,
 //! the arbiter, the schedule and the mailboxes.
 //!
-//! Every file is either a configuration that is lawful, or has one refusal.
+//! Every file either is a lawful configuration or has one refusal.
 #![tactic(auto)]
 
 mod arbiter;

@@ -1,6 +1,6 @@
 //! The numbers by which a line may name mailboxes.
 ghost use Rattle.std.specs.Prelude.{◌≡◌};
-ghost use Rattle.vme_script.specs.MailboxNumbers.{has_box, may_ask};
+ghost use Rattle.vme_script.specs.MailboxNumbers.{has_box, may_name};
 
 use vme_grammar::Line;
 
@@ -25,8 +25,8 @@ impl MailboxNumbers {
     }
 
     /// Whether a line names only mailboxes that it may name.
-    pub(crate) fn may_ask(self, line: &Line) -> bool
-        ensures { result ≡ may_ask self line.now }
+    pub(crate) fn may_name(self, line: &Line) -> bool
+        ensures { result ≡ may_name self line.now }
     {
         match line {
             Line::Put { mailbox, .. } | Line::Take { mailbox } => self.has(*mailbox),

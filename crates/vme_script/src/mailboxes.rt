@@ -1,4 +1,4 @@
-//! The mailboxes of a configuration, and the checks of each.
+//! The mailboxes of a configuration, and their checks.
 ghost use Rattle.std.specs.Prelude.{◌≡◌, ◌≤◌, length, IfOk};
 ghost use Rattle.vme_script.specs.Answers.{Gives};
 ghost use Rattle.vme_script.specs.Boards.{entries_of};

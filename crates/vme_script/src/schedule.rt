@@ -1,4 +1,4 @@
-//! The schedule of a configuration, and the checks of it.
+//! The schedule of a configuration, and its checks.
 ghost use Rattle.std.specs.Prelude.{◌≡◌, is_some, IfSome};
 ghost use Rattle.vme_script.specs.Answers.{Gives};
 ghost use Rattle.vme_script.specs.Schedules.{has_slot, lawful_schedule, schedule_of};
@@ -11,7 +11,7 @@ use vme_config_toml::FileTable;
 /// The greatest number of tries, of rounds, and of the turns of a schedule.
 const MOST_TURNS: u32 = 1_000_000;
 
-/// The slot, if there is a board in it.
+/// Returns the slot if there is a board in it.
 #[tactic(auto, unfolding(crate::specs::Schedules::has_slot))]
 fn slot_among(boards: &[BoardConfig], slot: u32) -> Option<u16>
     ensures there { is_some result ≡ has_slot boards.now slot }
@@ -25,7 +25,7 @@ fn slot_among(boards: &[BoardConfig], slot: u32) -> Option<u16>
     None
 }
 
-/// The pairs of a schedule, if they are lawful.
+/// Returns the pairs of a schedule if they are lawful, otherwise `BadSchedule`.
 #[tactic(auto, unfolding(crate::specs::Schedules::lawful_schedule))]
 fn lawful_schedule(
     alloc: Global,
@@ -47,7 +47,8 @@ fn lawful_schedule(
     Ok(schedule)
 }
 
-/// The schedule of a file, if the schedule, the tries and the rounds are lawful.
+/// Returns the schedule of a file if the schedule, the tries and the rounds are lawful, otherwise
+/// `BadSchedule`.
 #[tactic(auto, unfolding(crate::specs::Schedules::schedule_of))]
 pub(crate) fn schedule_of(
     alloc: Global,

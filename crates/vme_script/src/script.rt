@@ -2,7 +2,7 @@
 ghost use Rattle.std.specs.Prelude.{◌≡◌, ◌<◌, ◌≤◌, ◌∷◌, ◌++◌, [], nat_lt, length, slice_get, Some, Ok, Err, IfOk, IfErr, map};
 ghost use Rattle.std.specs.Str.Lines.{lines};
 ghost use Rattle.vme_script.specs.Contexts.{refusal_of};
-ghost use Rattle.vme_script.specs.Scripts.{script_of, script_within, lines_from, IsRefusalOf, IsTaken};
+ghost use Rattle.vme_script.specs.Scripts.{script_of, script_within, lines_from, IsRefusalOf, IsProcessed};
 
 use crate::context::ScriptContext;
 use crate::fault::{ScriptFault, ScriptRefusal};
@@ -117,7 +117,7 @@ fn push_line(
     text: &[u8],
     rules: &ScriptContext<'_>,
 ) -> Result<Option<LineFault>, AllocError>
-    ensures { IfOk result (IsTaken rules.now number text.now lines.old.items lines.new.items) }
+    ensures { IfOk result (IsProcessed rules.now number text.now lines.old.items lines.new.items) }
 {
     match parse_canonical(text) {
         Some(line) => keep(lines, ScriptLine { number, line }, rules),
@@ -135,7 +135,7 @@ fn take_any(
     text: &[u8],
     rules: &ScriptContext<'_>,
 ) -> Result<Option<LineFault>, AllocError>
-    ensures { IfOk result (IsTaken rules.now number text.now lines.old.items lines.new.items) }
+    ensures { IfOk result (IsProcessed rules.now number text.now lines.old.items lines.new.items) }
 {
     match parse_words(text) {
         Ok(Some(line)) => keep(lines, ScriptLine { number, line }, rules),

@@ -1,5 +1,5 @@
-//! What the tests share: checks of a file's first refusal, of lines that are led by listed replies,
-//! and of the end of a run with what it wrote.
+//! What the tests share: checks of a file's first refusal, of the steps of lines with listed
+//! replies, and of the end of a run with what it wrote.
 ghost use Rattle.std.specs.Prelude.{◌≡◌, ◌<◌, false};
 ghost use Rattle.vme_io.specs.Devices.{is_marked_sink};
 
@@ -92,7 +92,7 @@ fn read(bytes: &[u8]) -> Reply {
     Reply::Bytes(Datum::try_from(bytes).unwrap_or_default())
 }
 
-/// Returns the reply that `given` stands for.
+/// Returns the reply that `given` names.
 fn reply(given: Given) -> Option<EventReply> {
     let of_board = match given {
         Given::Nothing => return None,
@@ -116,21 +116,21 @@ fn started<'a>(rt: &impl Abort, config: &'a Config, line: usize) -> LineTask<'a>
     LineTask::start(config, 0, line, BlockBuffer::new())
 }
 
-/// Gives a line a reply, and checks the step to which it leads.
+/// Gives a line a reply, and checks the next step.
 fn check_step(rt: &impl Abort, task: &mut LineTask<'_>, given: Given, wanted: Step) {
     let step = step_of(&task.next(reply(given)));
     assert_eq!(rt; step, wanted, "{given:?}");
 }
 
-/// Leads a line through replies and steps.
+/// Gives a line replies, one after another, and checks the step after each.
 fn lead(rt: &impl Abort, task: &mut LineTask<'_>, course: &[(Given, Step)]) {
     for (given, wanted) in course {
         check_step(rt, task, *given, *wanted);
     }
 }
 
-/// Leads a line that is granted the bus at once through cycles, each at an offset of the first board
-/// and with the reply to it.
+/// Gives a line the bus at once and the reply to each of some cycles, each at an offset of the
+/// first board, and checks the steps.
 fn lead_through(rt: &impl Abort, task: &mut LineTask<'_>, cycles: &[(u32, Given)]) {
     let mut given = Given::Nothing;
     for (at, replied) in cycles {
@@ -142,13 +142,13 @@ fn lead_through(rt: &impl Abort, task: &mut LineTask<'_>, cycles: &[(u32, Given)
     check_step(rt, task, given, Step::End);
 }
 
-/// Checks the reply that a line lends.
+/// Checks the reply of a line, by reference.
 fn check_lent(rt: &impl Abort, task: &LineTask<'_>, wanted: LineReplyRef<'static>) {
     assert_eq!(rt; task.reply(), Some(wanted));
 }
 
-/// Checks the reply of a line that has ended. The line lends it before and after two calls more, and
-/// then gives it up.
+/// Checks the reply of a line that has ended: by reference, before and after two more calls of
+/// `next`, and then by value.
 fn check_reply(rt: &impl Abort, mut task: LineTask<'_>, wanted: LineReplyRef<'static>) {
     check_lent(rt, &task, wanted);
     check_step(rt, &mut task, Given::Nothing, Step::End);
@@ -158,7 +158,7 @@ fn check_reply(rt: &impl Abort, mut task: LineTask<'_>, wanted: LineReplyRef<'st
     check_taken(rt, &task.into_reply(), wanted);
 }
 
-/// Checks a reply that a line has given up.
+/// Checks a reply by value.
 fn check_taken(rt: &impl Abort, taken: &Option<LineReply>, wanted: LineReplyRef<'static>) {
     let lent = match taken {
         Some(reply) => borrowed(reply),

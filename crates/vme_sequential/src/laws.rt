@@ -31,7 +31,7 @@ pub fn a_run_of_threads_is_a_run_of_turns()
 
 /// A report of one order is a report with one history for each object, so that each law of these
 /// reports holds for it.
-pub fn one_order_is_a_history_of_each()
+pub fn one_order_has_a_history_of_each_object()
     ensures { (config : Configuration) (report : Report) →
         IsReportOfOneOrder config report → IsReportOf config report }
 {}

@@ -6,5 +6,6 @@
 mod laws;
 
 pub use laws::{
-    a_run_of_threads_is_a_run_of_turns, one_order_is_a_history_of_each, one_order_is_a_run_of_turns,
+    a_run_of_threads_is_a_run_of_turns, one_order_has_a_history_of_each_object,
+    one_order_is_a_run_of_turns,
 };

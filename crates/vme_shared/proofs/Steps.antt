@@ -25,7 +25,7 @@ abbrev pub IsSound : Stage → Type 0
 IsSound (Unlocks end) = end ≢ shared.Denied
 IsSound stage = Unit {0}
 
--- an end is no denial, and the next stage is sound
+-- a step is good: its end is no denial, or its next stage is sound
 abbrev pub IsGood : StageResult → Type 0
 IsGood (Continue stage) = IsSound stage
 IsGood (Finish end) = end ≢ shared.Denied

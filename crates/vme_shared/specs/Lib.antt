@@ -9,3 +9,4 @@ pub mod Steps
 pub mod Tables
 pub mod Machine
 pub mod Events
+pub mod CurrentData

@@ -18,7 +18,7 @@ use Rattle.vme_shared.specs.Mailboxes.{shared_refusal}
 use Rattle.vme_shared.specs.Steps.{first_stage, step_after}
 use Rattle.vme_shared.specs.Tables.{SharedJob, stage_job, task_shown}
 
--- the task of a shared request: what is requested, and the transfer at work
+-- the task of a shared request: what is requested, and the current transfer
 pub record SharedView : Type 0 where
   pub job : SharedJob
   pub current : CurrentTransfer
@@ -43,17 +43,17 @@ abbrev pub current_stepped : SharedJob → StageResult → CurrentTransfer
 current_stepped s (Continue stage) = stage_called stage (stage_job s stage)
 current_stepped s (Finish end) = Finished end
 
--- the transfer at work by what its bus task does next, or what follows the outcome of that task
+-- the current transfer by what its bus task does next, or what follows the outcome of that task
 abbrev pub current_by : SharedJob → Stage → TaskView → NextStep Outcome → CurrentTransfer
 current_by s stage task (Returns outcome) = current_stepped s (step_after s.request stage outcome)
 current_by s stage task next = Running stage task
 
--- the transfer at work, or what follows it if it has ended
+-- the current transfer, or what follows it if it has ended
 abbrev pub current_or : SharedJob → CurrentTransfer → Option StageResult → CurrentTransfer
 current_or s current None = current
 current_or s current (Some step) = current_stepped s step
 
--- the transfer at work, or what follows it, after the next reply or an absent one
+-- the current transfer, or what follows it, after the next reply or an absent one
 abbrev pub current_after : SharedJob → CurrentTransfer → Option EventReply → CurrentTransfer
 current_after s (Running stage task) given = current_by s stage (advance task given) (to_do (advance task given))
 current_after s (Finished end) given = Finished end
@@ -84,7 +84,7 @@ abbrev pub shared_given : SharedJob → Inputs → SharedView
 shared_given s [] = shared_fresh s
 shared_given s (last ∷ before) = shared_advance (shared_given s before) last
 
--- what the transfer at work does next, or the end
+-- what the current transfer does next, or the end
 abbrev pub current_to_do : CurrentTransfer → NextStep SharedOutcome
 current_to_do (Running stage task) = task_shown (to_do task)
 current_to_do (Finished end) = Returns end
@@ -93,7 +93,7 @@ current_to_do (Finished end) = Returns end
 abbrev pub shared_to_do : SharedView → NextStep SharedOutcome
 shared_to_do v = current_to_do v.current
 
--- the bus task of the transfer at work, if there is one, has not ended
+-- the bus task of the current transfer, if there is one, has not ended
 abbrev pub IsGoing : CurrentTransfer → Type 0
 IsGoing (Running stage task) = (outcome : Outcome) → to_do task ≢ Returns outcome
 IsGoing (Finished end) = Unit {0}

@@ -11,7 +11,7 @@ use Rattle.vme_memory.specs.Steps.{Command, Read, Write, Modify}
 use Rattle.vme_memory.specs.Locals.{command_given}
 use Rattle.vme_shared.specs.MailboxSteps.{BoardMailbox, lock_at, put_count_at, take_count_at, word_at, touches}
 
--- where a master stands: idle; the lock taken; the put count p read; the take count t read too; the word x with number
+-- the phase of a master: idle; the lock taken; the put count p read; the take count t read too; the word x with number
 -- p written; the word x with number t read; the count raised
 pub data Phase : Type 0 where
   Idle : Phase
@@ -37,7 +37,8 @@ access_of (Read at len) (Bytes datum) = Reads at len (number_of datum.items)
 access_of (Write at new) Done = Writes at (length new) (number_of new)
 access_of command reply = Others
 
--- whether a put with these counts goes on: the put count can rise, and fewer words than slots are there, modulo 2 ^ 32
+-- whether a put with these counts writes its word: the put count can rise, and the mailbox has fewer words than slots,
+-- modulo 2 ^ 32
 abbrev pub has_space : BoardMailbox → ℕ → ℕ → Bool
 has_space m p t = nat_lt p (2 ^ 32 - 1) && nat_lt ((p + 2 ^ 32 - t) % 2 ^ 32) m.slots
 

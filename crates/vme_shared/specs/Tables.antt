@@ -36,7 +36,7 @@ transfer_job s (Err fault) = Err fault
 abbrev pub stage_job : SharedJob → Stage → Result Job CycleFault
 stage_job s stage = transfer_job s (transfer_of (stage_request s.request stage))
 
--- how far the task has come: the stage at work, with its bus job and what that was given, the newest first; or the end
+-- how far the task has come: the current stage, with its bus job and what that was given, the newest first; or the end
 pub data Progress : Type 0 where
   At : Stage → Job → Inputs → Progress
   Over : SharedOutcome → Progress
@@ -51,7 +51,7 @@ abbrev pub step_begun : SharedJob → StageResult → Progress
 step_begun s (Continue stage) = stage_begun stage (None ∷ []) (stage_job s stage)
 step_begun s (Finish end) = Over end
 
--- the stage at work by what its bus job does next, or what follows the outcome of that job
+-- the current stage by what its bus job does next, or what follows the outcome of that job
 abbrev pub progress_by : SharedJob → Stage → Job → Inputs → NextStep Outcome → Progress
 progress_by s stage job given (Returns outcome) = step_begun s (step_after s.request stage outcome)
 progress_by s stage job given next = At stage job given
@@ -79,11 +79,11 @@ next_at (Over end) = Returns end
 abbrev pub shared_next : SharedJob → Inputs → NextStep SharedOutcome
 shared_next s given = next_at (progress_of s given)
 
--- the arbiter's last reply to the bus job at work, if there was one
+-- the arbiter's last reply to the current bus job, if there was one
 abbrev pub arb_reply_at : Progress → Option ArbReply
 arb_reply_at (At stage job given) = last_arb_reply given
 arb_reply_at (Over end) = None
 
--- the arbiter's last reply to the bus job at work, if there was one, by all that the task was given
+-- the arbiter's last reply to the current bus job, if there was one, by all that the task was given
 abbrev pub shared_arb_reply : SharedJob → Inputs → Option ArbReply
 shared_arb_reply s given = arb_reply_at (progress_of s given)

@@ -7,7 +7,7 @@ ghost use Rattle.vme_arbiter.specs.declared.command.ArbReply.{ArbReply};
 ghost use Rattle.vme_arbiter.specs.declared.command.ArbReply.TheVariants as arb_replies;
 ghost use Rattle.vme_arbiter.specs.Requests.{is_level};
 ghost use Rattle.vme_arbiter.specs.Arbitration.{Arbitration};
-ghost use Rattle.vme_arbiter.specs.Masters.{may_give, StandsAsReplied};
+ghost use Rattle.vme_arbiter.specs.Masters.{may_give, MatchesReply};
 ghost use Rattle.vme_core.specs.declared.event.EventReply.{EventReply};
 ghost use Rattle.vme_core.specs.declared.event.EventReply.TheVariants as replies;
 ghost use Rattle.vme_core.specs.Calls.{Call, OnBoard, OnBus};
@@ -22,9 +22,9 @@ ghost use Rattle.vme_shared.specs.Mailboxes.{IsWellFormed, shared_refusal};
 ghost use Rattle.vme_shared.specs.Tables.{SharedJob, stage_job, shared_next, shared_arb_reply};
 ghost use Rattle.vme_shared.specs.Machine.{shared_given, shared_to_do};
 
-/// A lock, an unlock, a put or a take follows its table: after calls with any replies it does next
-/// what the table says. A reply that does not fit, is absent or comes before the first call is a
-/// denial. An outcome is final.
+/// States that a lock, an unlock, a put or a take follows its table: after calls with any replies
+/// it does next what the table states. A reply that does not fit, is absent or comes before the
+/// first call is a denial. An outcome is final.
 pub fn shared_tasks_go_by_the_table()
     ensures table { (s : SharedJob) (given : Inputs) →
         shared_to_do (shared_given s given) ≡ shared_next s given }
@@ -40,8 +40,8 @@ pub fn shared_tasks_go_by_the_table()
         shared_next s (last ∷ given) ≡ Returns end }
 {}
 
-/// A request that is not refused at the start requests the bus at the task's first call, and does
-/// nothing before. None of its transfers is refused later.
+/// States that a request that is not refused at the start requests the bus at the task's first call
+/// and has not started before. None of its transfers is refused later.
 pub fn shared_tasks_are_refused_at_the_start()
     ensures rests { (s : SharedJob) → shared_refusal s.request ≡ None → shared_next s [] ≡ NotStarted }
     ensures asks { (s : SharedJob) → shared_refusal s.request ≡ None →
@@ -50,17 +50,17 @@ pub fn shared_tasks_are_refused_at_the_start()
         shared_refusal s.request ≡ None → (job : Job) × (stage_job s stage ≡ Ok job) }
 {}
 
-/// Each board that a lock, an unlock, a put or a take calls is one of the map.
+/// States that each board that a lock, an unlock, a put or a take calls is one of the map.
 pub fn shared_tasks_call_boards_of_the_map()
     ensures { (s : SharedJob) (given : Inputs) (board : ℕ) (command : Option Command) →
         shared_next s given ≡ Invokes (OnBoard board command) → board < length s.map }
 {}
 
-/// A lock, an unlock, a put or a take keeps its tenure of the bus, transfer by transfer. The
-/// arbiter's last reply allows each command to the arbiter. Data go to a board only while that
-/// reply is `Granted`. After a reply that fits and is no denial, the slot stands at the arbiter as
-/// the last reply states. If that reply ends the task, then the outcome is no denial, the reply is
-/// `Freed`, and the slot is free.
+/// States that a lock, an unlock, a put or a take keeps its tenure of the bus, transfer by
+/// transfer. The arbiter's last reply allows each command to the arbiter. Data go to a board only
+/// while that reply is `Granted`. After a reply that fits and is no denial, the slot holds the bus
+/// or waits as the last reply states. If that reply ends the task, then the outcome is no denial,
+/// the reply is `Freed`, and no reply of the arbiter is left.
 pub fn shared_tasks_keep_their_tenure()
     ensures begin { (s : SharedJob) → shared_arb_reply s (None ∷ []) ≡ None }
     ensures turns { (s : SharedJob) (given : Inputs) (cmd : ArbCmd) → IsTrue (is_level s.level) →
@@ -72,8 +72,8 @@ pub fn shared_tasks_keep_their_tenure()
     ensures turn { (s : SharedJob) (given : Inputs) (cmd : ArbCmd) (reply : ArbReply)
         (bus : Arbitration) (slot : ℕ) → shared_next s given ≡ Invokes (OnBus cmd) →
         IsTrue (fits (OnBus cmd) (replies.Bus reply)) → replies.Bus reply ≢ replies.Bus arb_replies.Denied →
-        StandsAsReplied bus slot (Some reply) →
-        StandsAsReplied bus slot (shared_arb_reply s (Some (replies.Bus reply) ∷ given)) }
+        MatchesReply bus slot (Some reply) →
+        MatchesReply bus slot (shared_arb_reply s (Some (replies.Bus reply) ∷ given)) }
     ensures datum { (s : SharedJob) (given : Inputs) (call : Call) (reply : Reply) →
         shared_next s given ≡ Invokes call → IsTrue (fits call (replies.Board reply)) →
         shared_arb_reply s (Some (replies.Board reply) ∷ given) ≡ shared_arb_reply s given }

@@ -30,8 +30,11 @@ const WORD_LEN: u32 = 4;
 /// to 64, and that the mailbox ends within the 32-bit addresses.
 #[derive(Clone, Copy, Debug, PartialEq, Eq)]
 pub struct Mailbox {
+    /// The address modifier code of its transfers.
     pub am: u8,
+    /// The address of its first byte, the lock.
     pub addr: u32,
+    /// The number of slots, each for one word.
     pub slots: u8,
 }
 

@@ -10,9 +10,9 @@ ghost use Rattle.vme_shared.specs.Phases.{IsProper};
 ghost use Rattle.vme_shared.specs.Words.{words_put, words_taken};
 ghost use Rattle.vme_shared.specs.Example.{example_board, example_mailbox, example_history, early_count_history};
 
-/// A mailbox is a queue. In every legal history of its board in which each master keeps the
-/// protocol, from a new mailbox on, the words taken are a prefix of the words put. At most as many
-/// more words are put as the mailbox has slots.
+/// States that a mailbox is a queue. In every legal history of its board in which each master keeps
+/// the protocol, from a new mailbox on, the words taken are a prefix of the words put. At most as
+/// many more words are put as the mailbox has slots.
 pub fn mailboxes_are_queues()
     ensures order { (board : Board) (m : BoardMailbox) (h : List (Entry BoardCmd Reply)) →
         IsNewMailbox board m → IsLegal board_step board h → IsProper m h →
@@ -22,9 +22,9 @@ pub fn mailboxes_are_queues()
         length (words_put m h) ≤ length (words_taken m h) + m.slots }
 {}
 
-/// An example of the protocol: one master puts a word, while another master finds the mailbox
-/// locked. The other master then takes the word. A put that writes the count before the word breaks
-/// the protocol.
+/// States that an example history is legal and keeps the protocol: one master puts a word, while
+/// another master finds the mailbox locked and then takes the word. A put that writes the count
+/// before the word has a legal history that breaks the protocol.
 pub fn a_word_goes_through()
     ensures legal { IsLegal board_step example_board example_history }
     ensures proper { IsProper example_mailbox example_history }

@@ -1,7 +1,10 @@
-ghost use Rattle.std.specs.Prelude.{◌≡◌, ◌≢◌};
+ghost use Rattle.std.specs.Prelude.{◌≡◌, ◌≢◌, ◌<◌};
 ghost use Rattle.std.specs.Option.{option_map, option_copied};
+ghost use Rattle.vme_core.specs.Advances.{CanMake, AdvancesOn};
 ghost use Rattle.vme_core.specs.EventRefs.{call_asked};
+ghost use Rattle.vme_core.specs.Machines.{process_count};
 ghost use Rattle.vme_core.specs.NextSteps.{NotStarted, call_in, result_in};
+ghost use Rattle.vme_shared.specs.CurrentData.{shared_datum};
 ghost use Rattle.vme_shared.specs.Mailboxes.{IsWellFormed};
 ghost use Rattle.vme_shared.specs.Machine.{shared_fresh, shared_task, shared_advance, shared_to_do};
 ghost use Rattle.vme_shared.specs.Events.{next_in, IsNextOf};
@@ -12,9 +15,10 @@ use crate::outcome::SharedOutcome;
 use crate::request::SharedRequest;
 use crate::todo::SharedTodo;
 use std::marker::Model;
-use vme_core::{EventRef, EventReply};
+use vme_core::{Core, EventRef, EventReply};
 use vme_cycle::CycleFault;
 use vme_decode::AddressMap;
+use vme_master::CurrentDatum;
 
 /// The task of a lock, an unlock, a put or a take, call by call.
 ///
@@ -81,6 +85,20 @@ impl<'a> SharedTask<'a> {
         }
     }
 
+    /// Performs the next event on `core` for processor `who` and gives the task the reply. Without
+    /// a next event nothing changes. This is `event_ref`, `Core::apply_ref` and `advance` in one,
+    /// and faster.
+    #[inline(never)]
+    pub fn advance_on(&mut self, core: &mut Core, who: usize)
+        requires who { who < process_count core.old }
+        requires can { CanMake core.old (call_in (shared_to_do self.old)) }
+        ensures { AdvancesOn shared_to_do shared_advance who core.old core.new self.old self.new }
+    {
+        if let Some(step) = self.current.advance_on(self.job.request(), core, who) {
+            self.current = self.job.stepped(step);
+        }
+    }
+
     /// Returns the event that comes next as a reference, without the signals of a cycle; or `None`
     /// before the first call and after the end.
     #[inline(never)]
@@ -89,6 +107,16 @@ impl<'a> SharedTask<'a> {
     {
         match &self.current {
             CurrentTransfer::Running { task, .. } => task.event_ref(),
+            CurrentTransfer::Finished(_) => None,
+        }
+    }
+
+    /// Returns the datum that the current transfer is at, if the task has not ended.
+    pub fn current_datum(&self) -> Option<CurrentDatum<'_>>
+        ensures { result ≡ shared_datum self.now }
+    {
+        match &self.current {
+            CurrentTransfer::Running { task, .. } => task.current_datum(),
             CurrentTransfer::Finished(_) => None,
         }
     }
@@ -103,7 +131,7 @@ impl<'a> SharedTask<'a> {
         }
     }
 
-    /// Puts the task back before its first call.
+    /// Returns the task to its state before the first call.
     pub fn restart(&mut self)
         ensures { self.new ≡ shared_fresh self.old.job }
     {

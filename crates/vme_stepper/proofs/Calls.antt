@@ -1,4 +1,4 @@
--- The calls of lines at work: they go to boards of the configuration, and their objects can count them.
+-- The calls of current lines: they go to boards of the configuration, and their objects can count them.
 use Rattle.std.proofs.Common.{◌≡◌, ℕ, ◌-◌, ◌^◌, length, Some, refl, ap, sym, ◌∙◌}
 use Rattle.vme_core.specs.declared.event.Target.TheVariants as at
 use Rattle.vme_core.specs.Runs.{Machine}
@@ -25,6 +25,7 @@ can_call machine task (OnBus cmd) below steps makes = record {
   unspent = λ spent. none_spent machine at.Bus steps spent;
 }
 
+-- the machine can make the call of a next step, if it has one
 can_next : (machine : Machine) (task : LineTask) (next : NextStep LineReply) → line_to_do task ≡ next → IsLineBelow (length machine.boards) task
     → StepsWithin (2 ^ 64 - 2) machine → CanMake machine (call_in next)
 can_next machine task NotStarted is below steps = tt

@@ -1,12 +1,13 @@
 pub mod Reported
 pub mod Processors
 pub mod Turning
-pub mod Drawing
+pub mod Beginning
+pub mod NextBuffers
 pub mod SystemStates
 pub mod Steps
 pub mod Calls
-pub mod Places
-pub mod Runs
-pub mod Driving
+pub mod StepperTurns
+pub mod Halves
 pub mod Opening
 pub mod Reporting
+pub mod lemmas

@@ -24,12 +24,13 @@ abbrev pub fresh_script_state : List ScriptLine → ScriptState
 fresh_script_state script = script_state [] []
 
 module _ (config : Configuration) where
-  -- the processors of the script states and one more
+  -- the processors of script states, with the processor of one more appended, are those of all of them
   processors_push : (from place : ℕ) (script_states : List ScriptState) (c : ScriptState) → place ≡ from + length script_states
       → processors_from config from (script_states ++ c ∷ []) ≡ processors_from config from script_states ++ processor_of config place c ∷ []
   processors_push from place [] c at = let same : from ≡ place = omega arith in ap (λ p. processor_of config p c ∷ []) same
   processors_push from place (first ∷ script_states) c at = ap (λ processors. processor_of config from first ∷ processors) (processors_push (from + 1) place script_states c (omega arith))
 
+  -- there are as many processors as script states
   processors_length : (from : ℕ) (script_states : List ScriptState) → length (processors_from config from script_states) ≡ length script_states
   processors_length from [] = refl
   processors_length from (c ∷ script_states) = ap suc (processors_length (from + 1) script_states)
@@ -43,7 +44,7 @@ module _ (config : Configuration) where
       let at_none : unreported ≡ processor script = rw (reported_none script) refl in
       at_none ∙ ap processor (sym (get_or_from_slice_get config.scripts board script [] found))
 
-  -- the processors before their first lines, of the first boards and the next one
+  -- the processors before their first lines, with that of the next board appended, are those of one board more
   pub processors_next : (board : ℕ) (script : List ScriptLine) → slice_get config.scripts board ≡ Some script
       → processors_from config 0 (map fresh_script_state (take board config.scripts)) ++ record { script = script; lines = map unfinished script; ended = 0; at = None } ∷ []
       ≡ processors_from config 0 (map fresh_script_state (take (board + 1) config.scripts))
@@ -55,12 +56,13 @@ module _ (config : Configuration) where
       ∙ ap (processors_from config 0)
       (sym (map_next fresh_script_state config.scripts board (script_state [] []) (get_map fresh_script_state config.scripts board ∙ ap (option_map fresh_script_state) found)))
 
-  -- the stepper of the initial state, by its parts
+  -- a machine of zero memories and processors before their first lines are the stepper of the initial state
   pub opens : (machine : Machine) (processors : List ProcessorView) (memories : List Board) (bus : Arbitration) (k : ℕ) → machine ≡ opening memories bus k
       → memories ≡ map opening_memory config.boards → bus ≡ opening_bus config.arbiter → k ≡ length config.boards → processors ≡ processors_from config 0 (initial_state config).script_states
       → record { machine = machine; processors = processors } ≡ stepper_of config (initial_state config)
   opens machine processors memories bus k is zeros kind process_count own = rw (is, zeros, kind, process_count, own) refl
 
+  -- the processor of a script before its first line is one of the configuration
   by_script : (b : ℕ) (processor : ProcessorView) (found : Option (List ScriptLine)) → slice_get config.scripts b ≡ found
       → option_map (processor_of config b) (option_map fresh_script_state found) ≡ Some processor → IsProcessorOf config b processor
   by_script b processor None is at = absurd (cc at)
@@ -72,6 +74,7 @@ module _ (config : Configuration) where
         below = tt;
       })
 
+  -- the stepper of the initial state is one of the configuration
   pub opens_soundly : IsLawful config → IsStepperOf config (stepper_of config (initial_state config))
   opens_soundly lawful = record {
     boards = length-map (map opening_memory config.boards) (fresh_count (length config.boards)) ∙ length-map config.boards opening_memory;

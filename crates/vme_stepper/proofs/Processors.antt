@@ -38,7 +38,7 @@ module _ (config : Configuration) (board : ℕ) where
   answered_is processor ended answer line lines left script reported count =
       rw (script, reported, count, reported_more (script_at config board) ended answer (within (length ended) line lines left), length_push ended answer) refl
 
-  -- a processor whose task has advanced by a reply is that of the script state with this reply
+  -- a processor with its task after a reply is that of the script state with this reply
   settled_is : (processor : ProcessorView) (ended : List LineReply) (reply : EventReply) (replies : List EventReply) (line : Line) (lines : List Line) (next : NextStep LineReply)
       → drop (length ended) (lines_at config board) ≡ line ∷ lines → processor.script ≡ script_at config board
       → processor.lines ≡ numbered_replies (script_at config board) ended → processor.ended ≡ length ended
@@ -51,7 +51,7 @@ module _ (config : Configuration) (board : ℕ) where
   abbrev with_processor : Machine × ScriptState → Machine × ProcessorView
   with_processor next = (next.0, processor_of config board next.1)
 
-  -- the task of the next line
+  -- the task of the next line, after the replies of the script state
   task_is : (c : ScriptState) (line : Line) (lines : List Line) → lines_left config board c ≡ line ∷ lines
       → task_now config board line (processor_of config board c).at ≡ line_after config board line c.replies
   task_is c line lines left = by_replies c.replies refl
@@ -61,6 +61,7 @@ module _ (config : Configuration) (board : ℕ) where
       by_replies [] are = refl
       by_replies (reply ∷ replies) are = rw left refl
 
+  -- a turn by the next step of a task is the turn by the next step of its line, if the turns after a reply agree
   next_is : (machine : Machine) (c : ScriptState) (line : Line) (lines : List Line) (next : NextStep LineReply) (processor_after : ProcessorView → Machine × ProcessorView)
       (script_state_after : ScriptState → Machine × ScriptState) → lines_left config board c ≡ line ∷ lines
       → ((answer : LineReply) → processor_after (processor_of config board (script_state (c.ended ++ answer ∷ []) [])) ≡ with_processor (script_state_after (script_state (c.ended ++ answer ∷ []) [])))

@@ -8,7 +8,7 @@ use Rattle.vme_shared.specs.declared.reply.LineReply.TheVariants.{Unfinished}
 use Rattle.vme_script.specs.declared.script.ScriptLine.{ScriptLine}
 use Rattle.vme_stepper.specs.Reports.{numbered_replies}
 
--- to record one more reply is to set the reply of the next line
+-- the entries with the reply of the next line set are those with one reply more
 pub reported_more :
     (script : List ScriptLine) (ended : List LineReply) (answer : LineReply) → length ended < length script
     → slice_set (numbered_replies script ended) (length ended) ((slice_index_or (numbered_replies script ended) (length ended) (0, answer)).0, answer)

@@ -17,10 +17,10 @@ use Rattle.vme_stepper.specs.Reports.{texts_of_boards, texts_of_system}
 use Rattle.vme_stepper.specs.Turns.{SystemState, state_after}
 use Rattle.vme_stepper.specs.Steppers.{ProcessorView, StepperView, texts_of_processors, processors_from, stepper_of}
 use Rattle.vme_stepper.proofs.Reported.{get_map}
-use Rattle.vme_stepper.proofs.Places.{slot_found}
+use Rattle.vme_stepper.proofs.lemmas.Places.{slot_found}
 use Rattle.vme_stepper.proofs.Turning.{next_first}
 
--- the value of a counted state, by the list of these values
+-- the value of a counted state is the one at its index in the list of these values
 counted_is : {B : Type 0} (f : CountedState Board → B) (counted_states : List (CountedState Board)) (i : ℕ) (counted : CountedState Board) (y : B) → slice_get counted_states i ≡ Some counted
     → slice_get (map f counted_states) i ≡ Some y → f counted ≡ y
 counted_is f counted_states i counted y at found = same_Some _ _ (sym (rw at at (get_map f counted_states i)) ∙ found)
@@ -50,12 +50,12 @@ board_more boards processors counted_states i slot steps processor lines object 
       | inr past ↦ absurd (omega (arith, past.0))
     ]
 
--- after the last board no entry is left
+-- after the last board, the entries so far are all entries
 pub board_over : (boards : List BoardConfig) (processors : List ProcessorView) (counted_states : List (CountedState Board)) (i : ℕ) (reported : List BoardText) → length boards ≤ i
     → reported ++ texts_of_processors (drop i boards) (drop i processors) (drop i counted_states) ≡ texts_of_processors boards processors counted_states → reported ≡ texts_of_processors boards processors counted_states
 board_over boards processors counted_states i reported over whole = sym (append-nil reported) ∙ ap (λ ts. reported ++ ts) (sym (rw (drop_all i boards over) refl)) ∙ whole
 
--- the entries by the processors are those by their script states
+-- the report's entries by processors of script states are those by the script states
 script_states_reported : (config : Configuration) (boards : List BoardConfig) (scripts : List (List ScriptLine)) (script_states : List ScriptState) (counted_states : List (CountedState Board)) (from : ℕ)
     → drop from config.scripts ≡ scripts → length scripts ≡ length boards
     → texts_of_processors boards (processors_from config from script_states) counted_states ≡ texts_of_boards boards scripts script_states counted_states

@@ -15,7 +15,7 @@ module _ (config : Configuration) where
   processors_get from zero place (c ∷ script_states) at = let same : from ≡ place = omega arith in ap (λ p. Some (processor_of config p c)) same
   processors_get from (suc b) place (c ∷ script_states) at = processors_get (from + 1) b place script_states (omega arith)
 
-  -- to set a processor is to set its script state
+  -- the processors with one replaced are those of the script states with one replaced
   pub processors_set : (from b place : ℕ) (script_states : List ScriptState) (new : ScriptState) → place ≡ from + b
       → slice_set (processors_from config from script_states) b (processor_of config place new) ≡ processors_from config from (slice_set script_states b new)
   processors_set from b place [] new at = refl
@@ -24,6 +24,7 @@ module _ (config : Configuration) where
   processors_set from (suc b) place (c ∷ script_states) new at =
       ap (λ processors. processor_of config from c ∷ processors) (processors_set (from + 1) b place script_states new (omega arith))
 
+  -- a turn of the processor at an index, if there is one, is the turn of the system
   turned_is : (system : SystemState) (board : ℕ) (found : Option ScriptState)
       → stepper_turned config (stepper_of config system) board (option_map (processor_of config board) found) ≡ stepper_of config (turn_in config system board found)
   turned_is system board None = refl

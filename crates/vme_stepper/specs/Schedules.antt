@@ -7,7 +7,7 @@ use Rattle.vme_script.specs.Configurations.{Configuration}
 abbrev pub schedule_turns : List (ℕ × ℕ) → List ℕ
 schedule_turns schedule = flat_map (λ turns. replicate turns.1 turns.0) schedule
 
--- the slots of a number of rounds over these slots, in order
+-- the slots of this number of rounds over these slots, in order
 abbrev pub round_turns : ℕ → List ℕ → List ℕ
 round_turns zero slots = []
 round_turns (suc n) slots = slots ++ round_turns n slots

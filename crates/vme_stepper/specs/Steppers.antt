@@ -1,4 +1,4 @@
--- The system as the stepper keeps it, with tasks in place of replies, for this crate's own functions.
+-- The state of the stepper, with tasks in place of replies, and its turns, for this crate's own functions.
 use Rattle.std.specs.Prelude.{ℕ, ◌≡◌, ◌+◌, ◌<◌, ◌≤◌, List, [], ◌∷◌, length, drop, slice_get, slice_set, slice_index_or, Option, Some, None, IfSome}
 use Rattle.vme_cycle.specs.BlockBuffers.{BufferView}
 use Rattle.vme_memory.specs.Boards.{Board}
@@ -22,20 +22,20 @@ use Rattle.vme_line_task.specs.Traces.{ScriptState}
 use Rattle.vme_stepper.specs.Reports.{numbered_replies}
 use Rattle.vme_stepper.specs.Turns.{SystemState, lines_left}
 
--- a processor in the stepper: its script, the report's lines, how many have ended, and the task of the line at work, if
--- any
+-- a processor in the stepper: its script, the report's lines, how many have ended, and the task of the current line, if
+-- it has started
 pub record ProcessorView : Type 0 where
   pub script : List ScriptLine
   pub lines : List (ℕ × LineReply)
   pub ended : ℕ
   pub at : Option LineTask
 
--- the number of lines that have begun
+-- the number of lines that have started
 abbrev pub begun_lines : ℕ → Option LineTask → ℕ
 begun_lines ended None = ended
 begun_lines ended (Some task) = ended + 1
 
--- a line at work has a call to make, and each line that has not begun has its buffer
+-- a line that has started has a call to make, and each line that has not started has its buffer
 pub record IsSoundProcessor (script : List ScriptLine) (lines : List (ℕ × LineReply)) (ended : ℕ) (at : Option LineTask)
     (buffers : List BufferView) : Type 0 where
   pub work : IfSome at (λ task. (ended < length lines) × MakesCall (line_to_do task))
@@ -55,7 +55,7 @@ processor_answered processor answer = record {
   at = None;
 }
 
--- a processor with a task of its next line: if the line has ended its reply is recorded, else the task is at work
+-- a processor with a task of its current line: if the line has ended its reply is recorded, else the task is kept
 abbrev pub processor_settled : ProcessorView → LineTask → NextStep LineReply → ProcessorView
 processor_settled processor task (Returns answer) = processor_answered processor answer
 processor_settled processor task next = record { script = processor.script; lines = processor.lines; ended = processor.ended; at = Some task }
@@ -67,17 +67,17 @@ processor_called machine board processor task call =
     let next = line_advance task (Some step.1) in
     (step.0, processor_settled processor next (line_to_do next))
 
--- a turn by what the next line does: it makes its call, or its reply is recorded and the lines after it have the turn
+-- a turn by the next step of a task: it makes its call, or the reply of its line is recorded and the next lines go on
 abbrev pub processor_turn_by : Machine → ℕ → ProcessorView → LineTask → NextStep LineReply → (ProcessorView → Machine × ProcessorView) → Machine × ProcessorView
 processor_turn_by machine board processor task (Invokes call) after = processor_called machine board processor task call
 processor_turn_by machine board processor task (Returns answer) after = after (processor_answered processor answer)
 processor_turn_by machine board processor task next after = (machine, processor)
 
--- a line after its first call
+-- the task of a line that has started and has no reply yet
 abbrev pub line_begun : Configuration → ℕ → Line → LineTask
 line_begun config board line = line_advance (line_started config board line) None
 
--- the task of a line, which begins if none is at work
+-- the current task, or that of a line that starts
 abbrev pub task_now : Configuration → ℕ → Line → Option LineTask → LineTask
 task_now config board line (Some task) = task
 task_now config board line None = line_begun config board line
@@ -116,7 +116,7 @@ texts_of_processors (board ∷ boards) (processor ∷ processors) (counted ∷ c
     ∷ texts_of_processors boards processors counted_states
 texts_of_processors boards processors counted_states = []
 
--- the task of the line at work, if its calls have a reply
+-- the task of the first of these lines, if a call of it has a reply
 abbrev pub task_at : Configuration → ℕ → List EventReply → List Line → Option LineTask
 task_at config board [] lines = None
 task_at config board (reply ∷ replies) [] = None
@@ -140,8 +140,8 @@ processors_from config board (c ∷ script_states) = processor_of config board c
 abbrev pub stepper_of : Configuration → SystemState → StepperView
 stepper_of config system = record { machine = system.machine; processors = processors_from config 0 system.script_states }
 
--- a processor has the script of its board, an entry for each line of the script, and calls boards of the configuration
--- alone
+-- a processor has the script of its board and an entry for each line of it, and its current line calls only boards of
+-- the configuration
 pub record IsProcessorOf (config : Configuration) (board : ℕ) (processor : ProcessorView) : Type 0 where
   pub script : processor.script ≡ script_at config board
   pub lines : length processor.lines ≡ length (lines_at config board)

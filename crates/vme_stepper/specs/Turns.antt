@@ -1,4 +1,4 @@
--- Turns of the processors on one backplane, one after another: all that a run on one thread does.
+-- Turns of the processors on one backplane, one after another. A run on one thread consists of turns.
 use Rattle.std.specs.Prelude.{ℕ, ◌==◌, List, [], ◌∷◌, ◌++◌, length, map, drop, slice_get, slice_set, Option, Some, None}
 use Rattle.std.specs.List.{position}
 use Rattle.vme_core.specs.declared.event.EventReply.{EventReply}
@@ -14,36 +14,36 @@ use Rattle.vme_line_task.specs.Scripts.{lines_at}
 use Rattle.vme_line_task.specs.Tables.{line_next}
 use Rattle.vme_line_task.specs.Traces.{ScriptState}
 
--- the boards and the arbiter with their counts, and how far each processor has come in its script, in the order of the
--- boards
+-- the boards and the arbiter with their counts, and the script state of each processor, in the order of the boards
 pub record SystemState : Type 0 where
   pub machine : Machine
   pub script_states : List ScriptState
 
--- a script state by its parts
+-- the script state with these replies to lines, and these replies to the calls of the current line
 abbrev pub script_state : List LineReply → List EventReply → ScriptState
 script_state ended replies = record { ended = ended; replies = replies }
 
--- the script state of a line with these replies: if the line has ended, its reply is recorded and the next line comes
+-- the script state of a line with these replies: if the line has ended, its reply is recorded and the next line is
+-- current
 abbrev pub settled : List LineReply → List EventReply → NextStep LineReply → ScriptState
 settled ended replies (Returns answer) = script_state (ended ++ answer ∷ []) []
 settled ended replies next = script_state ended replies
 
--- the line at work makes its call as its board's processor, and is given the reply
+-- the current line makes its call as its board's processor, and the reply is added to its replies
 abbrev pub call_made : Configuration → ℕ → Line → Machine → ScriptState → Call → Machine × ScriptState
 call_made config board line machine c call =
     let step = machine_step machine board call in
     (step.0, settled c.ended (step.1 ∷ c.replies) (line_next config board line (step.1 ∷ c.replies)))
 
--- a turn by what a line does next: it makes its call, or its reply is recorded and the lines after it have the turn;
--- nothing happens with `NotStarted`, which `line_next` never gives
+-- a turn by the next step of the current line: it makes its call, or its reply is recorded and the next lines go on;
+-- nothing happens with `NotStarted`, which is never the value of `line_next`
 abbrev pub turn_by : Configuration → ℕ → Line → Machine → ScriptState → NextStep LineReply → (ScriptState → Machine × ScriptState) → Machine × ScriptState
 turn_by config board line machine c (Invokes call) after = call_made config board line machine c call
 turn_by config board line machine c (Returns answer) after = after (script_state (c.ended ++ answer ∷ []) [])
 turn_by config board line machine c next after = (machine, c)
 
 -- a turn of a processor with these lines left: the replies of lines without a call are recorded, and the first line
--- with a call makes it; with no line left nothing happens
+-- with a call makes it; if no line is left, nothing happens
 abbrev pub script_state_turn : Configuration → ℕ → List Line → Machine → ScriptState → Machine × ScriptState
 script_state_turn config board [] machine c = (machine, c)
 script_state_turn config board (line ∷ lines) machine c =

@@ -1,25 +1,29 @@
-//! A processor at work on its script.
-ghost use Rattle.std.specs.Prelude.{◌≡◌, ◌<◌, ◌≤◌, ◌-◌, ◌^◌, length, map, slice_set, slice_index_or, is_some, true, Some, None, IfOk, IfSome, IsTrue};
+//! A processor and its script.
+ghost use Rattle.std.specs.Prelude.{◌≡◌, ◌<◌, ◌≤◌, ◌-◌, ◌^◌, ℕ, length, map, slice_set, slice_index_or, is_some, true, option_map, Some, None, IfOk, IfSome, IsSome, IsTrue};
 ghost use Rattle.vme_shared.specs.declared.reply.LineReply.TheVariants.{Unfinished};
 ghost use Rattle.vme_core.specs.Runs.{Machine};
 ghost use Rattle.vme_core.specs.Machines.{process_count};
-ghost use Rattle.vme_core.specs.NextSteps.{Returns, result_in};
+ghost use Rattle.vme_core.specs.Calls.{Call, machine_step};
+ghost use Rattle.vme_core.specs.NextSteps.{Invokes, Returns, result_in, MakesCall};
+ghost use Rattle.vme_core.specs.Advances.{AdvancesOn};
 ghost use Rattle.vme_script.specs.Configurations.{Configuration};
 ghost use Rattle.vme_line_task.specs.declared.task.LineTask.{LineTask as AnyTask};
-ghost use Rattle.vme_line_task.specs.Machine.{line_to_do, IsLineBelow};
+ghost use Rattle.vme_line_task.specs.Machine.{line_advance, line_to_do, IsLineBelow};
 ghost use Rattle.vme_stepper.specs.Steppers.{processor_turn, IsProcessorOf, StepsWithin};
+ghost use Rattle.vme_stepper.specs.Lines.{processor_begun, line_in, call_answered};
 
 use std::alloc::{AllocError, Global};
 use std::marker::Model;
-use vme_core::Core;
+use vme_core::{Core, EventReply};
 use vme_line_task::{LineTask, ReadBuffers};
 use vme_script::{Config, Script};
 use vme_shared::LineReply;
 
-/// A script with the replies of the lines that have ended, and the line at work, if there is one.
+/// A script with the replies of the lines that have ended, and the task of the current line, if it
+/// has started.
 ///
-/// All memory, that for the bytes of its lines included, is allocated when the processor is made.
-/// The task of a line is not moved while the line is at work.
+/// `new` allocates all memory, including that for the bytes of the lines. The task of a line is not
+/// moved between its calls.
 #[derive(Drop)]
 pub(crate) struct Processor<'a> {
     script: &'a Script,
@@ -98,6 +102,64 @@ impl<'a> Processor<'a> {
         self.advance_on(core, board);
     }
 
+    /// Returns the number and the task of the current line, if there is one. The task has an event
+    /// next.
+    pub(crate) fn line(&self) -> Option<(u16, &LineTask<'a>)>
+        ensures line { option_map (λ line. (line.0, line.1.now)) result ≡ line_in self.now }
+        ensures makes { IfSome result (λ line. MakesCall (line_to_do line.1.now)) }
+    {
+        match &self.task {
+            Some(task) => Some((self.lines[self.ended].0, task)),
+            None => None,
+        }
+    }
+
+    /// Records the replies of lines that need no event, up to a line that needs one.
+    pub(crate) fn begin_line(&mut self, config: &'a Config, board: usize)
+        requires board { board < length config.now.boards }
+        requires processor { IsProcessorOf config.now board self.old }
+        ensures begun { self.new ≡ processor_begun config.now board self.old }
+        ensures turn { (machine : Machine) → processor_turn config.now board machine self.new
+            ≡ processor_turn config.now board machine self.old }
+        ensures processor { IsProcessorOf config.now board self.new }
+        ensures over { self.new.at ≡ None → length self.new.lines ≤ self.new.ended }
+    {
+        if self.task.is_none() {
+            self.seek(config, board);
+        }
+    }
+
+    /// Performs the next event of the current line, if there is one. Returns the reply, and whether
+    /// the line has ended with it.
+    pub(crate) fn call(&mut self, core: &mut Core, board: usize) -> Option<(EventReply, bool)>
+        requires who { board < process_count core.old }
+        requires below { IfSome self.old.at (IsLineBelow (length core.old.boards)) }
+        requires capacity { StepsWithin (2 ^ 64 - 2) core.old }
+        ensures some { IsSome self.old.at → IsSome result }
+        ensures turn { (config : Configuration) → IsProcessorOf config board self.old →
+            IsSome self.old.at → (core.new, self.new) ≡ processor_turn config board core.old self.old }
+        ensures answered { (task : AnyTask) (call : Call) → self.old.at ≡ Some task →
+            line_to_do task ≡ Invokes call → result ≡ Some (call_answered core.old board task call) }
+        ensures machine { (task : AnyTask) (call : Call) → self.old.at ≡ Some task →
+            line_to_do task ≡ Invokes call → core.new ≡ (machine_step core.old board call).0 }
+        ensures below { IfSome self.new.at (IsLineBelow (length core.old.boards)) }
+        ensures lines { length self.new.lines ≡ length self.old.lines }
+        ensures script { self.new.script ≡ self.old.script }
+        ensures process_count { process_count core.new ≡ process_count core.old }
+        ensures boards { length core.new.boards ≡ length core.old.boards }
+    {
+        let Some(task) = &mut self.task else {
+            return None;
+        };
+        let reply = perform(task, core, board);
+        if task.is_finished() {
+            end_line(&mut self.lines, self.ended, &mut self.task);
+            self.ended += 1;
+            return Some((reply, true));
+        }
+        Some((reply, false))
+    }
+
     /// Returns whether each line has ended.
     fn is_finished(&self) -> bool
         ensures { IsTrue result → length self.now.lines ≤ self.now.ended }
@@ -115,6 +177,7 @@ impl<'a> Processor<'a> {
             ≡ processor_turn config.now board machine self.old }
         ensures processor { IsProcessorOf config.now board self.new }
         ensures over { self.new.at ≡ None → length self.new.lines ≤ self.new.ended }
+        ensures begun { self.new ≡ processor_begun config.now board self.old }
     {
         while self.ended < self.lines.len() {
             let buffer = self.buffers.take();
@@ -130,7 +193,7 @@ impl<'a> Processor<'a> {
         }
     }
 
-    /// Performs the next event of the line at work, if there is one.
+    /// Performs the next event of the current line, if it has started.
     #[inline(always)]
     #[tactic(auto, using(crate::proofs::Calls::can_make))]
     fn advance_on(&mut self, core: &mut Core, board: usize)
@@ -157,7 +220,25 @@ impl<'a> Processor<'a> {
     }
 }
 
-/// Records the reply of the line at work, which has ended, and drops its task. Out of line, to keep
+/// Performs the next event of a line and gives the line the reply, which it returns.
+#[tactic(auto, using(crate::proofs::Calls::can_make))]
+fn perform(task: &mut LineTask<'_>, core: &mut Core, board: usize) -> EventReply
+    requires work { MakesCall (line_to_do task.old) }
+    requires who { board < process_count core.old }
+    requires below { IsLineBelow (length core.old.boards) task.old }
+    requires capacity { StepsWithin (2 ^ 64 - 2) core.old }
+    ensures reply { (call : Call) → line_to_do task.old ≡ Invokes call →
+        result ≡ (machine_step core.old board call).1 }
+    ensures step { AdvancesOn line_to_do line_advance board core.old core.new task.old task.new }
+    ensures below { (n : ℕ) → IsLineBelow n task.old → IsLineBelow n task.new }
+{
+    let event_ref = task.event_ref().unwrap();
+    let reply = core.apply_ref(board, &event_ref);
+    task.advance(Some(&reply));
+    reply
+}
+
+/// Records the reply of the current line, which has ended, and drops its task. Out of line, to keep
 /// the stack frame of a turn small.
 #[inline(never)]
 fn end_line(lines: &mut [(u16, LineReply)], place: usize, at_work: &mut Option<LineTask<'_>>)

@@ -16,7 +16,7 @@ use vme_shared::Status;
 /// Runs the scripts by turns of the processors in `slots`, one after another, and appends the
 /// report to `sink`. Returns the status of the replies.
 ///
-/// A turn of a slot without a board, or of a processor with no line left, does nothing. No turn
+/// A turn of a slot without a board, or of a processor with no line left, changes nothing. No turn
 /// allocates.
 ///
 /// # Errors
@@ -48,8 +48,8 @@ pub fn run_steps<W: Sink>(
 /// Runs the scripts by the turns of the configuration's file, and appends the report to `sink`.
 /// Returns the status of the replies.
 ///
-/// The turns are those of the file's schedule, and then its rounds over all slots in order. No list
-/// of them is made, so that the memory does not grow with their number.
+/// The turns are those of the file's schedule, and then its rounds over all slots in order. The
+/// memory does not grow with their number.
 ///
 /// # Errors
 ///

@@ -1,5 +1,5 @@
-//! Boards and arbiter, and the processors on them, turn by turn.
-ghost use Rattle.std.specs.Prelude.{◌≡◌, ◌<◌, ◌-◌, ◌^◌, length, map, false, IfOk, IfErr, IfSome, OnOk, OnErr};
+//! The boards, the arbiter and the processors of a configuration, and their turns.
+ghost use Rattle.std.specs.Prelude.{◌≡◌, ◌<◌, ◌-◌, ◌^◌, ℕ, length, map, option_map, false, Some, None, IfOk, IfErr, IfSome, IsSome, OnOk, OnErr};
 ghost use Rattle.std.specs.Io.KnownBytes.{Appends};
 ghost use Rattle.vme_io.specs.Prefixes.{AppendsPrefix};
 ghost use Rattle.vme_report.specs.Reports.{report_text, report_status};
@@ -8,21 +8,31 @@ ghost use Rattle.vme_script.specs.Configurations.{opening_memory};
 ghost use Rattle.vme_script.specs.Lawful.{IsLawful};
 ghost use Rattle.vme_stepper.specs.Turns.{board_in_slot, initial_state, state_after};
 ghost use Rattle.vme_stepper.specs.Schedules.{schedule_turns, file_turns};
+ghost use Rattle.vme_core.specs.Calls.{Call, machine_step};
+ghost use Rattle.vme_core.specs.NextSteps.{Invokes, MakesCall};
+ghost use Rattle.vme_line_task.specs.declared.task.LineTask.{LineTask as AnyTask};
+ghost use Rattle.vme_line_task.specs.Machine.{line_to_do};
+ghost use Rattle.vme_stepper.specs.Lines.{stepper_begun, line_of, call_answered};
 ghost use Rattle.vme_stepper.specs.Steppers.{stepper_turn, stepper_of, texts_of_processors, processors_from, IsStepperOf, StepsWithin};
 
 use crate::processor::Processor;
 use std::alloc::{AllocError, Global};
 use std::marker::Model;
-use vme_core::{Core, OutOfMemory, Target};
+use vme_arbiter::Arbiter;
+use vme_core::{Core, EventReply, OutOfMemory, Target};
 use vme_io::Sink;
+use vme_line_task::LineTask;
 use vme_memory::ByteMemory;
 use vme_report::{BoardReportRef, RunFault, write_report};
 use vme_script::Config;
 use vme_shared::Status;
 
-/// The boards and the arbiter of a backplane, and the processors at work on their scripts.
+/// The boards and the arbiter of a backplane, and the processors with their scripts.
+///
+/// A turn of a processor is one call of `turn`, or `begin_line` and then `call` if a line is at
+/// work: these show the event before it is performed, and its reply.
 #[derive(Drop)]
-pub(crate) struct Stepper<'a> {
+pub struct Stepper<'a> {
     core: Core,
     processors: Vec<Processor<'a>>,
 }
@@ -37,7 +47,11 @@ impl<'a> Model for Stepper<'a> {
 
 impl<'a> Stepper<'a> {
     /// Returns the stepper before the first turn. It allocates everything that turns need.
-    pub(crate) fn new(alloc: Global, config: &'a Config) -> Result<Stepper<'a>, OutOfMemory>
+    ///
+    /// # Errors
+    ///
+    /// An allocation failed.
+    pub fn new(alloc: Global, config: &'a Config) -> Result<Stepper<'a>, OutOfMemory>
         ensures stepper { IfOk result (λ stepper. stepper ≡ stepper_of config.now (initial_state config.now)) }
         ensures sound { IfOk result (IsStepperOf config.now) }
         ensures lawful { IsLawful config.now }
@@ -54,7 +68,7 @@ impl<'a> Stepper<'a> {
 
     /// Performs a turn of the processor of the board with index `board`.
     #[inline(always)]
-    fn turn(&mut self, config: &'a Config, board: usize)
+    pub fn turn(&mut self, config: &'a Config, board: usize)
         requires board { board < length config.now.boards }
         requires stepper { IsStepperOf config.now self.old }
         requires capacity { StepsWithin (2 ^ 64 - 2) self.old.machine }
@@ -62,6 +76,56 @@ impl<'a> Stepper<'a> {
         ensures sound { IsStepperOf config.now self.new }
     {
         self.processors[board].turn(config, &mut self.core, board);
+    }
+
+    /// Records the replies of the lines of a board's processor that need no event, up to a line
+    /// that needs one. The next turn is the same as before.
+    pub fn begin_line(&mut self, config: &'a Config, board: usize)
+        requires board { board < length config.now.boards }
+        requires stepper { IsStepperOf config.now self.old }
+        ensures begun { self.new ≡ stepper_begun config.now self.old board }
+        ensures turn { stepper_turn config.now self.new board ≡ stepper_turn config.now self.old board }
+        ensures over { line_of self.new board ≡ None → self.new ≡ stepper_turn config.now self.old board }
+        ensures sound { IsStepperOf config.now self.new }
+    {
+        self.processors[board].begin_line(config, board);
+    }
+
+    /// Returns the number and the task of the current line of a board's processor, if there is one.
+    /// The task has an event next.
+    pub fn line(&self, board: usize) -> Option<(u16, &LineTask<'a>)>
+        requires { board < length self.now.processors }
+        ensures line { option_map (λ line. (line.0, line.1.now)) result ≡ line_of self.now board }
+        ensures makes { IfSome result (λ line. MakesCall (line_to_do line.1.now)) }
+    {
+        self.processors[board].line()
+    }
+
+    /// Performs the next event of the current line of a board's processor. Returns the reply, and
+    /// whether the line has ended with it.
+    pub fn call(&mut self, config: &'a Config, board: usize) -> (EventReply, bool)
+        requires board { board < length config.now.boards }
+        requires stepper { IsStepperOf config.now self.old }
+        requires work { IsSome (line_of self.old board) }
+        requires capacity { StepsWithin (2 ^ 64 - 2) self.old.machine }
+        ensures turn { self.new ≡ stepper_turn config.now self.old board }
+        ensures answered { (line : ℕ × AnyTask) (call : Call) → line_of self.old board ≡ Some line →
+            line_to_do line.1 ≡ Invokes call →
+            result ≡ call_answered self.old.machine board line.1 call }
+        ensures machine { (line : ℕ × AnyTask) (call : Call) → line_of self.old board ≡ Some line →
+            line_to_do line.1 ≡ Invokes call →
+            self.new.machine ≡ (machine_step self.old.machine board call).0 }
+        ensures sound { IsStepperOf config.now self.new }
+    {
+        prove!(board < config.boards());
+        self.processors[board].call(&mut self.core, board).unwrap()
+    }
+
+    /// Returns the arbiter of the bus.
+    pub fn arbiter(&self) -> &Arbiter
+        ensures { result.now ≡ self.now.machine.bus.object }
+    {
+        self.core.arbiter()
     }
 
     /// Performs turns of slots, one after another.
@@ -78,8 +142,8 @@ impl<'a> Stepper<'a> {
         }
     }
 
-    /// Performs the turns of the file, without a list of them: those of its schedule, and then its
-    /// rounds.
+    /// Performs the turns of the file: those of its schedule, and then its rounds. It makes no list
+    /// of them.
     pub(crate) fn run_configured(&mut self, config: &'a Config)
         requires lawful { IsLawful config.now }
         requires opening { self.old ≡ stepper_of config.now (initial_state config.now) }
@@ -126,7 +190,7 @@ impl<'a> Stepper<'a> {
         }
     }
 
-    /// Writes the report.
+    /// Writes the report and returns the status of the replies.
     pub(crate) fn report<W: Sink>(
         &self,
         alloc: Global,
@@ -174,7 +238,7 @@ impl<'a> Stepper<'a> {
 }
 
 /// Returns the index of the board in a slot, if there is one.
-fn board_in_slot(config: &Config, slot: u16) -> Option<usize>
+pub fn board_in_slot(config: &Config, slot: u16) -> Option<usize>
     ensures place { result ≡ board_in_slot config.now slot }
     ensures there { IfSome result (λ board. board < length config.now.boards) }
 {

@@ -1,6 +1,6 @@
 //! Tests of scripts on threads: processors that wait for each other, that read blocks, that add to
-//! one word, and that share locks and mailboxes. They are a crate of their own so that `vme_threads`
-//! is not proved twice.
+//! one word, and that share locks and mailboxes. They are a crate of their own so that the proofs
+//! of `vme_threads` are not repeated.
 #![tactic(auto)]
 
 #[cfg(test)]

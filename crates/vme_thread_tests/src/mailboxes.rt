@@ -160,7 +160,7 @@ fn each_word_is_taken_once_and_in_order(rt: HostRuntime) -> Result<(), Fail> {
 }
 
 #[test]
-fn so_it_is_in_each_of_a_thousand_runs(rt: HostRuntime) -> Result<(), Fail> {
+fn a_thousand_runs_take_each_word_once(rt: HostRuntime) -> Result<(), Fail> {
     let alloc = rt.alloc();
     let config = passing(&rt, alloc, FEW)?;
     map_indices(&rt, alloc, AT_ONCE, &|_| pass_on_again(&rt, alloc, &config))?;

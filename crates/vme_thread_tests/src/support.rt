@@ -9,10 +9,10 @@ use vme_report::reply_line;
 use vme_script::Config;
 use vme_threads::{Gate, Report, run_threads};
 
-/// How often a processor looks for a sign.
+/// The number of times that a processor checks a flag.
 const LOOKS: u32 = 10_000_000;
 
-/// Looks for a sign, for a while: whether it came.
+/// Returns whether a flag is set, checked `LOOKS` times at most.
 pub(crate) fn seen(sign: &AtomicBool) -> bool {
     let backoff = Backoff::new();
     for _ in 0..LOOKS {
@@ -70,7 +70,7 @@ impl Gate for Meeting {
     fn after(&self, _slot: u16, _line: u16) {}
 }
 
-/// The configuration of a file.
+/// Returns the configuration of a file.
 pub(crate) fn configured(rt: &impl Abort, alloc: Global, file: &str) -> Config {
     match Config::read(alloc, file.as_bytes()) {
         Ok(config) => config,
@@ -78,7 +78,7 @@ pub(crate) fn configured(rt: &impl Abort, alloc: Global, file: &str) -> Config {
     }
 }
 
-/// The report of a run on threads.
+/// Returns the report of a run on threads.
 pub(crate) fn report_of<R: Threads + Wait + Abort + Sync, G: Gate + Sync>(
     rt: &R,
     alloc: Global,

@@ -12,7 +12,7 @@ use Rattle.vme_port_array.proofs.lemmas.Parts.{part-append}
 use Rattle.vme_bus_objects.specs.declared.command.BusCommand.{BusCommand}
 use Rattle.vme_bus_objects.specs.declared.command.BusCommand.TheVariants as commands
 use Rattle.vme_bus_objects.specs.Runs.{BusEntry, run_of, MatchesKindAt, MatchesKind}
-use Rattle.vme_threads.specs.PassSets.{CountsMore}
+use Rattle.vme_threads.specs.ProcessorPasses.{CountsMore}
 
 -- a processor's own entries in the part of an object are no more than the whole part
 own_part : (who x : ℕ) (h : List BusEntry) → length (part x (own who h)) ≤ length (part x h)

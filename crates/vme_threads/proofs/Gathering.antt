@@ -15,7 +15,7 @@ use Rattle.vme_bus_objects.specs.declared.object.BusObject.TheVariants as object
 use Rattle.vme_bus_objects.specs.Runs.{run_of, transitions_of}
 use Rattle.vme_threads.specs.declared.report.BoardReport.{BoardReport}
 use Rattle.vme_threads.specs.declared.report.Report.{Report}
-use Rattle.vme_threads.specs.Rans.{answers_in}
+use Rattle.vme_threads.specs.Rans.{replies_of_lines}
 use Rattle.vme_threads.specs.OneOrder.{IsEntryOfBoard, IsReportOfOneOrder}
 use Rattle.vme_threads.specs.Settlements.{BusPass, IsRunOfArray}
 use Rattle.vme_threads.specs.Gatherings.{IsGathered}
@@ -44,7 +44,7 @@ one_order_of config passes homes report g = record {
     each = λ who own lines less.
         let here : who < length passes = subst (λ n. who < n) (sym count) less in
         let p = some_element passes who here in
-        subst (λ ms. IsTrace config who (lines_at config who) ms (answers_in (slice_index_or report.lines.items who lines).items))
+        subst (λ ms. IsTrace config who (lines_at config who) ms (replies_of_lines (slice_index_or report.lines.items who lines).items))
         (sym (transitions_are who p here)) (g.trace.each who p lines here);
   };
   numbers = g.numbers;

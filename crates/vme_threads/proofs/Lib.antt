@@ -5,7 +5,7 @@ mod Openings
 mod Entries
 pub mod Settlements
 pub mod Gathering
-pub mod PassSets
+pub mod ProcessorPasses
 pub mod Lines
 pub mod Runs
 pub mod Once

@@ -18,14 +18,14 @@ use Rattle.vme_line_task.proofs.lemmas.Lines.{by_the_replies}
 use Rattle.vme_core.proofs.lemmas.NextSteps.{in_makes, ends_so}
 use Rattle.vme_line_task.proofs.lemmas.Below.{calls_below}
 use Rattle.vme_line_task.proofs.lemmas.Traces.{goes-snoc}
-use Rattle.vme_threads.specs.declared.pass_set.PassSet.{PassSet}
-use Rattle.vme_threads.specs.PassSets.{AddsTransitions, AddsCall}
+use Rattle.vme_threads.specs.declared.processor_pass.ProcessorPass.{ProcessorPass}
+use Rattle.vme_threads.specs.ProcessorPasses.{AddsTransitions, AddsCall}
 use Rattle.vme_threads.specs.Rans.{AddsLine}
 use Rattle.vme_threads.proofs.Places.{element_at}
-use Rattle.vme_threads.proofs.PassSets.{made_none, made_more}
+use Rattle.vme_threads.proofs.ProcessorPasses.{made_none, made_more}
 
 -- the line at a place of the script is in progress: a run of its events was made, and `task` is the line's task after them
-pub record IsLineInProgress (config : Configuration) (place : ℕ) (before now : PassSet) (task : LineTask) : Type 0 where
+pub record IsLineInProgress (config : Configuration) (place : ℕ) (before now : ProcessorPass) (task : LineTask) : Type 0 where
   pub line : Line
   pub there : slice_get (lines_at config before.who) place ≡ Some line
   pub run : List Transition
@@ -38,7 +38,7 @@ pub record IsLineInProgress (config : Configuration) (place : ℕ) (before now :
 
 -- a line is in progress when its task has started, before its first event
 pub line_start :
-    (config : Configuration) (place : ℕ) (d : PassSet) (fresh task : LineTask) → place < length (lines_at config d.who)
+    (config : Configuration) (place : ℕ) (d : ProcessorPass) (fresh task : LineTask) → place < length (lines_at config d.who)
     → ((line : Line) → slice_get (lines_at config d.who) place ≡ Some line → fresh ≡ line_started config d.who line)
     → task ≡ line_advance fresh None → line_to_do task ≢ NotStarted → IsLineBelow (length config.boards) task
     → IsLineInProgress config place d d task
@@ -58,13 +58,13 @@ line_start config place d fresh task place< started advanced begun below =
 
 -- what the task of a line in progress does next is what the line's table states
 line_next_is :
-    (config : Configuration) (place : ℕ) (d e : PassSet) (task : LineTask) (at : IsLineInProgress config place d e task)
+    (config : Configuration) (place : ℕ) (d e : ProcessorPass) (task : LineTask) (at : IsLineInProgress config place d e task)
     → line_to_do task ≡ line_next config d.who at.line at.replies
 line_next_is config place d e task at = ap line_to_do at.is ∙ by_the_replies config d.who at.line at.replies
 
 -- a line is still in progress after one more event
 pub line_more :
-    (config : Configuration) (place : ℕ) (d e f : PassSet) (call : Call) (reply : EventReply) (task new : LineTask)
+    (config : Configuration) (place : ℕ) (d e f : ProcessorPass) (call : Call) (reply : EventReply) (task new : LineTask)
     → IsLineInProgress config place d e task → Some call ≡ call_in (line_to_do task) → AddsCall call reply e f
     → new ≡ line_advance task (Some reply) → line_to_do new ≢ NotStarted → IsLineBelow (length config.boards) new
     → IsLineInProgress config place d f new
@@ -86,7 +86,7 @@ line_more config place d e f call reply task new at asks next advanced begun bel
 
 -- a line in progress whose task has ended has its reply
 pub line_end :
-    (config : Configuration) (place : ℕ) (d e : PassSet) (task : LineTask) (answer : LineReply)
+    (config : Configuration) (place : ℕ) (d e : ProcessorPass) (task : LineTask) (answer : LineReply)
     → IsLineInProgress config place d e task
     → Some answer ≡ result_in (line_to_do task) → AddsLine config place answer d e
 line_end config place d e task answer at is = record {

@@ -27,20 +27,20 @@ use Rattle.vme_script.specs.declared.script.ScriptLine.{ScriptLine}
 use Rattle.vme_script.specs.Boards.{entries_of}
 use Rattle.vme_script.specs.Configurations.{Configuration}
 use Rattle.vme_line_task.specs.Scripts.{Transferring, slot_at, level_at, lines_at, transfer_job, request_attempt, line_attempt}
-use Rattle.vme_line_task.specs.Tables.{moves_next, attempts_of, next_wants_retry, next_given, line_next, given_of}
+use Rattle.vme_line_task.specs.Tables.{transferring_next, attempts_of, next_wants_retry, next_given, line_next, given_of}
 use Rattle.vme_line_task.specs.Events.{IsCallBelow}
 use Rattle.vme_line_task.specs.Traces.{Continues}
 use Rattle.vme_line_task.proofs.lemmas.Below.{next_below}
 use Rattle.vme_line_task.proofs.lemmas.Traces.{goes-snoc}
 use Rattle.vme_port.specs.declared.fault.Spent.{Spent}
-use Rattle.vme_threads.specs.declared.pass_set.PassSet.{PassSet}
-use Rattle.vme_threads.specs.PassSets.{AddsTransitions, AddsCall}
+use Rattle.vme_threads.specs.declared.processor_pass.ProcessorPass.{ProcessorPass}
+use Rattle.vme_threads.specs.ProcessorPasses.{AddsTransitions, AddsCall}
 use Rattle.vme_threads.specs.Rans.{IsAnsweredBy, AddsLine}
-use Rattle.vme_threads.proofs.PassSets.{made_none, made_more}
+use Rattle.vme_threads.proofs.ProcessorPasses.{made_none, made_more}
 use Rattle.vme_threads.proofs.Runs.{script_is}
 
 -- the outcome of a transfer or of a local command never asks for another attempt
-attempted_once : (next : NextStep Outcome) → next_wants_retry (moves_next next) ≡ false
+attempted_once : (next : NextStep Outcome) → next_wants_retry (transferring_next next) ≡ false
 attempted_once NotStarted = refl
 attempted_once (Invokes call) = refl
 attempted_once (Returns outcome) = refl
@@ -55,14 +55,14 @@ all_given job tries (last ∷ before) =
 -- a line that is attempted once does next what its job does
 pub once_next : (config : Configuration) (board : ℕ) (line : Line) (job : Job) (replies : List EventReply)
     → line_attempt config board line ≡ Ok (Transferring job)
-    → line_next config board line replies ≡ moves_next (next_of job (given_of replies))
+    → line_next config board line replies ≡ transferring_next (next_of job (given_of replies))
 unfolding next_given
 once_next config board line job replies is =
-    rw is (ap (λ (g : Inputs). moves_next (next_of job g)) (all_given job config.tries (given_of replies)))
+    rw is (ap (λ (g : Inputs). transferring_next (next_of job g)) (all_given job config.tries (given_of replies)))
 
 -- a command to the local port gets its reply by one call
 pub local_answered :
-    (cmd : BoardCmd) (reply : Reply) (outcome : Outcome) (d e : PassSet)
+    (cmd : BoardCmd) (reply : Reply) (outcome : Outcome) (d e : ProcessorPass)
     → AddsTransitions (move d.who (events.Board d.who cmd) (event_replies.Board reply) ∷ []) d e
     → ((board : ℕ) → next_of (local_job board cmd) (Some (event_replies.Board reply) ∷ None ∷ []) ≡ Returns outcome)
     → (config : Configuration) → IsAnsweredBy config (lines.Local cmd) (Transfer outcome) d e
@@ -74,7 +74,7 @@ local_answered cmd reply outcome d e made ends = λ config. record {
     goes = (once_next config d.who (lines.Local cmd) (local_job d.who cmd) [] refl, refl);
     ends =
         once_next config d.who (lines.Local cmd) (local_job d.who cmd) (event_replies.Board reply ∷ []) refl
-        ∙ ap moves_next (ends d.who);
+        ∙ ap transferring_next (ends d.who);
   };
 }
 
@@ -89,21 +89,21 @@ line_found config who place script line there at =
 
 -- a processor that gets the reply to a line gets the reply at the place of that line
 pub answered_there :
-    (config : Configuration) (place : ℕ) (line : Line) (d e : PassSet) (result : Result LineReply Spent)
+    (config : Configuration) (place : ℕ) (line : Line) (d e : ProcessorPass) (result : Result LineReply Spent)
     → slice_get (lines_at config d.who) place ≡ Some line → IfOk result (λ answer. IsAnsweredBy config line answer d e)
     → IfOk result (λ answer. AddsLine config place answer d e)
 answered_there config place line d e (Ok answer) there is = record { line = line; there = there; is = is }
 answered_there config place line d e (Err spent) there is = tt
 
 -- the next call of a job's task is the next call of its line
-called : (next : NextStep Outcome) (call : Call) → Some call ≡ call_in next → moves_next next ≡ Invokes call
+called : (next : NextStep Outcome) (call : Call) → Some call ≡ call_in next → transferring_next next ≡ Invokes call
 called NotStarted call is = absurd cc
 called (Invokes other) call is = cc
 called (Returns outcome) call is = absurd cc
 
 -- the outcome of a job's task is the reply to its line
 ended : (next : NextStep Outcome) (outcome : Outcome) → Some outcome ≡ result_in next
-    → moves_next next ≡ Returns (Transfer outcome)
+    → transferring_next next ≡ Returns (Transfer outcome)
 ended NotStarted outcome is = absurd cc
 ended (Invokes call) outcome is = absurd cc
 ended (Returns other) outcome is = cc
@@ -116,7 +116,7 @@ refused_by map slot level (Err other) fault is = cc
 
 -- a refused request gets its reply without a call
 pub refused_answered :
-    (config : Configuration) (map : List Entry) (slot level : ℕ) (request : Request) (fault : CycleFault) (d : PassSet)
+    (config : Configuration) (map : List Entry) (slot level : ℕ) (request : Request) (fault : CycleFault) (d : ProcessorPass)
     → Err fault ≡ bus_task map slot level (transfer_of request) → IsAnsweredBy config (lines.Bus request) (Refused fault) d d
 unfolding next_given
 refused_answered config map slot level request fault d is = record {
@@ -126,7 +126,7 @@ refused_answered config map slot level request fault d is = record {
 }
 
 -- a request over the bus is in progress: a run of its events was made, and `task` is its task after them
-pub record IsRequestInProgress (config : Configuration) (request : Request) (before now : PassSet) (task : TaskView) :
+pub record IsRequestInProgress (config : Configuration) (request : Request) (before now : ProcessorPass) (task : TaskView) :
     Type 0 where
   pub job : Job
   pub attempted : line_attempt config before.who (lines.Bus request) ≡ Ok (Transferring job)
@@ -151,7 +151,7 @@ started_by map slot level (Err fault) task is = absurd cc
 
 -- a request is in progress when its task has started, before its first event
 pub request_start :
-    (config : Configuration) (map : List Entry) (slot level : ℕ) (request : Request) (d : PassSet) (fresh task : TaskView)
+    (config : Configuration) (map : List Entry) (slot level : ℕ) (request : Request) (d : ProcessorPass) (fresh task : TaskView)
     → map ≡ entries_of config.boards → slot_at config d.who ≡ slot → level_at config d.who ≡ level
     → Ok fresh ≡ bus_task map slot level (transfer_of request) → task ≡ advance fresh None → to_do task ≢ NotStarted
     → IsRequestInProgress config request d d task
@@ -175,16 +175,16 @@ request_start config map slot level request d fresh task maps slots levels is ad
 
 -- what the task of a request in progress does next is what the line's table states
 request_next :
-    (config : Configuration) (request : Request) (d e : PassSet) (task : TaskView)
+    (config : Configuration) (request : Request) (d e : ProcessorPass) (task : TaskView)
     (at : IsRequestInProgress config request d e task)
-    → moves_next (to_do task) ≡ line_next config d.who (lines.Bus request) at.replies
+    → transferring_next (to_do task) ≡ line_next config d.who (lines.Bus request) at.replies
 request_next config request d e task at =
-    ap (λ (t : TaskView). moves_next (to_do t)) at.is ∙ ap moves_next (by_the_table at.job (given_of at.replies))
+    ap (λ (t : TaskView). transferring_next (to_do t)) at.is ∙ ap transferring_next (by_the_table at.job (given_of at.replies))
     ∙ sym (once_next config d.who (lines.Bus request) at.job at.replies at.attempted)
 
 -- the next call of a request in progress goes to the arbiter or to a board of the configuration
 pub request_below :
-    (config : Configuration) (request : Request) (d e : PassSet) (task : TaskView) (n : ℕ) (call : Call)
+    (config : Configuration) (request : Request) (d e : ProcessorPass) (task : TaskView) (n : ℕ) (call : Call)
     → IsRequestInProgress config request d e task
     → d.who < length config.boards → length config.boards ≡ n → Some call ≡ call_in (to_do task) → IsCallBelow n call
 request_below config request d e task n call at there same asks =
@@ -194,7 +194,7 @@ request_below config request d e task n call at there same asks =
 
 -- a request is still in progress after one more event
 pub request_more :
-    (config : Configuration) (request : Request) (d e f : PassSet) (call : Call) (reply : EventReply) (task new : TaskView)
+    (config : Configuration) (request : Request) (d e f : ProcessorPass) (call : Call) (reply : EventReply) (task new : TaskView)
     → IsRequestInProgress config request d e task → Some call ≡ call_in (to_do task) → AddsCall call reply e f
     → new ≡ advance task (Some reply)
     → to_do new ≢ NotStarted → IsRequestInProgress config request d f new
@@ -215,7 +215,7 @@ request_more config request d e f call reply task new at asks next advanced begu
 
 -- a request in progress whose task has ended has its reply
 pub request_end :
-    (config : Configuration) (request : Request) (d e : PassSet) (task : TaskView) (outcome : Outcome)
+    (config : Configuration) (request : Request) (d e : ProcessorPass) (task : TaskView) (outcome : Outcome)
     → IsRequestInProgress config request d e task
     → Some outcome ≡ result_in (to_do task) → IsAnsweredBy config (lines.Bus request) (Transfer outcome) d e
 request_end config request d e task outcome at is = record {

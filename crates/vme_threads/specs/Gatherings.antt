@@ -17,7 +17,7 @@ use Rattle.vme_bus_objects.specs.Runs.{run_of}
 use Rattle.vme_threads.specs.declared.worker.Ran.{Ran}
 use Rattle.vme_threads.specs.declared.report.BoardReport.{BoardReport}
 use Rattle.vme_threads.specs.declared.report.Report.{Report}
-use Rattle.vme_threads.specs.Rans.{numbers_in, answers_in}
+use Rattle.vme_threads.specs.Rans.{numbers_in, replies_of_lines}
 use Rattle.vme_threads.specs.Settlements.{BusPass, IsSettled}
 
 -- the object of a home is the memory of a board
@@ -52,7 +52,7 @@ pub record IsGathered (config : Configuration) (passes : List BusPass) (homes : 
   pub settled : IsSettled config passes homes
   pub whose : Each (λ i p. p.who ≡ i) passes
   pub trace :
-      AllAt (λ who (p : BusPass) lines. IsTrace config who (lines_at config who) (run_of p.mine) (answers_in lines.items))
+      AllAt (λ who (p : BusPass) lines. IsTrace config who (lines_at config who) (run_of p.mine) (replies_of_lines lines.items))
       passes report.lines.items
   pub numbers :
       Each (λ who lines. numbers_in lines.items ≡ map (λ one. one.number) (script_at config who)) report.lines.items
@@ -69,4 +69,4 @@ pub record IsGathered (config : Configuration) (passes : List BusPass) (homes : 
 pub record IsGatheredFrom (config : Configuration) (rans : List Ran) (report : Report) : Type 0 where
   pub lines : report.lines.items ≡ map (λ r. r.lines) rans
   pub homes : List (Home BusObject)
-  pub is : IsGathered config (map (λ r. r.pass_set.pass) rans) homes report
+  pub is : IsGathered config (map (λ r. r.processor_pass.pass) rans) homes report

@@ -1,7 +1,7 @@
 pub mod RunBuffers
 pub mod Settlements
 pub mod Ports
-pub mod PassSets
+pub mod ProcessorPasses
 pub mod Rans
 pub mod Reports
 pub mod OneOrder

@@ -14,7 +14,7 @@ use Rattle.vme_line_task.specs.Traces.{IsTrace}
 use Rattle.vme_bus_objects.specs.Runs.{transitions_of}
 use Rattle.vme_threads.specs.declared.report.BoardReport.{BoardReport}
 use Rattle.vme_threads.specs.declared.report.Report.{Report}
-use Rattle.vme_threads.specs.Rans.{numbers_in, answers_in}
+use Rattle.vme_threads.specs.Rans.{numbers_in, replies_of_lines}
 
 -- a legal history of k callers leads to an object: it has `steps` entries, and as many of each caller as `made` states
 pub record LeadsTo {S C R : Type 0} (step : S → C → S × R) (start : S) (k : ℕ) (h : List (Entry C R)) (object : S) (steps : ℕ)
@@ -44,7 +44,7 @@ pub record IsReportOfOneOrder (config : Configuration) (report : Report) : Type 
   pub trace :
       AllAt
       (λ who (own : BoardConfig) lines. IsTrace config who (lines_at config who) (transitions_of who run)
-      (answers_in lines.items))
+      (replies_of_lines lines.items))
       config.boards report.lines.items
   pub numbers :
       Each (λ who lines. numbers_in lines.items ≡ map (λ one. one.number) (script_at config who)) report.lines.items

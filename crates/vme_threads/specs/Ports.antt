@@ -21,10 +21,10 @@ use Rattle.vme_threads.specs.Settlements.{opening_objects}
 -- buffers for what its lines read and for its replies
 pub record IsNewWorker (config : Configuration) (array : PortArray BusObject BusCommand EventReply) (i : ℕ) (w : Worker) :
     Type 0 where
-  pub who : w.pass_set.who ≡ i
-  pub boards : w.pass_set.boards ≡ length config.boards
-  pub pass : IsUnused (array_id array) i w.pass_set.pass
-  pub made : w.pass_set.made.items ≡ replicate {A = ℕ} (length config.boards + 1) 0
+  pub who : w.processor_pass.who ≡ i
+  pub boards : w.processor_pass.boards ≡ length config.boards
+  pub pass : IsUnused (array_id array) i w.processor_pass.pass
+  pub made : w.processor_pass.made.items ≡ replicate {A = ℕ} (length config.boards + 1) 0
   pub buffers : w.buffers ≡ buffers_of (script_at config i)
   pub lines : vec_len w.lines ≡ 0
   pub lines_capacity : length (script_at config i) ≤ vec_capacity w.lines

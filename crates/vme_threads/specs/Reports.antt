@@ -15,7 +15,7 @@ use Rattle.vme_threads.specs.declared.ports.Ports.{Ports}
 use Rattle.vme_threads.specs.declared.report.BoardReport.{BoardReport}
 use Rattle.vme_threads.specs.declared.report.Report.{Report}
 use Rattle.vme_threads.specs.Ports.{IsBuilt}
-use Rattle.vme_threads.specs.Rans.{HasRun, numbers_in, answers_in}
+use Rattle.vme_threads.specs.Rans.{HasRun, numbers_in, replies_of_lines}
 
 module _ {S C R : Type 0} (step : S → C → S × R) (start : S) where
   -- one legal history leads to the object: it has `steps` entries, and exactly the entries in `parts` of each caller,
@@ -43,7 +43,7 @@ pub record IsReportOf (config : Configuration) (report : Report) : Type 0 where
   pub whose : Each (λ who run. All (λ m. m.who ≡ who) run) runs
   pub fitting : All (λ run. All (λ m. IsReplyTo m.event m.reply) run) runs
   pub trace :
-      AllAt (λ who run lines. IsTrace config who (lines_at config who) run (answers_in lines.items)) runs report.lines.items
+      AllAt (λ who run lines. IsTrace config who (lines_at config who) run (replies_of_lines lines.items)) runs report.lines.items
   pub numbers :
       Each (λ who lines. numbers_in lines.items ≡ map (λ one. one.number) (script_at config who)) report.lines.items
   pub boards : AllAt (IsEndOf runs) config.boards report.boards.items

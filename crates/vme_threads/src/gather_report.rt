@@ -7,8 +7,8 @@ ghost use Rattle.vme_threads.specs.Reports.{CanGather};
 ghost use Rattle.vme_threads.specs.OneOrder.{IsReportOfOneOrder};
 ghost use Rattle.vme_threads.specs.Gatherings.{IsBoardHome, IsEntryOfHome, IsGatheredFrom};
 
-use crate::pass_set::PassSet;
 use crate::ports::Ports;
+use crate::processor_pass::ProcessorPass;
 use crate::report::{BoardReport, Report};
 use crate::run_buffers::{PassBuffers, ReportBuffers};
 use crate::worker::Ran;
@@ -32,22 +32,22 @@ fn collect_passes(
     requires counts_capacity { vec_len rans ≤ vec_capacity counts.old }
     requires lines { vec_len lines.old ≡ 0 }
     requires lines_capacity { vec_len rans ≤ vec_capacity lines.old }
-    ensures passes { passes.new.items ≡ map (λ r. r.pass_set.pass) rans.items }
-    ensures counts { counts.new.items ≡ map (λ r. r.pass_set.made) rans.items }
+    ensures passes { passes.new.items ≡ map (λ r. r.processor_pass.pass) rans.items }
+    ensures counts { counts.new.items ≡ map (λ r. r.processor_pass.made) rans.items }
     ensures lines { lines.new.items ≡ map (λ r. r.lines) rans.items }
 {
     for ran in rans {
         let Ran {
-            pass_set,
+            processor_pass,
             lines: answered,
         } = ran;
-        let PassSet {
+        let ProcessorPass {
             who: _,
             boards: _,
             pass,
             made,
             wait_state: _wait_state,
-        } = pass_set;
+        } = processor_pass;
         passes.push_reserved(pass);
         counts.push_reserved(made);
         lines.push_reserved(answered);

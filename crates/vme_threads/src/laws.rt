@@ -19,7 +19,7 @@ pub fn a_settled_array_is_a_run()
 
 /// A report that is gathered from a settled port array is a report of one order: one run has the
 /// transitions of all processors, and the part of each object in it leads to the object's entry.
-pub fn what_is_gathered_is_one_order()
+pub fn gathered_reports_have_one_order()
     ensures { (config : Configuration) (passes : List BusPass) (homes : List (Home BusObject))
         (report : Report) → IsGathered config passes homes report →
         IsReportOfOneOrder config report }

@@ -16,12 +16,12 @@ ghost use Rattle.vme_script.specs.Configurations.{Configuration};
 ghost use Rattle.vme_line_task.specs.Events.{IsCallBelow};
 ghost use Rattle.vme_line_task.specs.ReadBuffers.{line_read_len, request_read_len};
 ghost use Rattle.vme_line_task.specs.Scripts.{lines_at};
-ghost use Rattle.vme_line_task.specs.Tables.{moves_next};
-ghost use Rattle.vme_threads.specs.PassSets.{MatchesPorts};
+ghost use Rattle.vme_line_task.specs.Tables.{transferring_next};
+ghost use Rattle.vme_threads.specs.ProcessorPasses.{MatchesPorts};
 ghost use Rattle.vme_threads.specs.Rans.{IsAnsweredBy, AddsLine};
 
-use crate::pass_set::PassSet;
 use crate::ports::Ports;
+use crate::processor_pass::ProcessorPass;
 use std::sync::Wait;
 use std::sync::atomic::Ordering;
 use vme_core::EventReply;
@@ -34,7 +34,7 @@ use vme_port::Spent;
 use vme_script::Config;
 use vme_shared::LineReply;
 
-impl PassSet {
+impl ProcessorPass {
     /// Runs one line of the script until it has its reply. `line` is the index among the lines that
     /// are neither blank nor comments; `buffer` receives what the line reads over the bus. While
     /// another processor has the bus, it waits between two requests to the arbiter, and it pauses

@@ -128,7 +128,7 @@ fn start_all<'s, E, R: Threads + Wait + Sync, G: Gate + Sync>(
         let promise = WorkerPromise {
             config,
             ports,
-            who: worker.pass_set.who,
+            who: worker.processor_pass.who,
         };
         let Ok(child) = scope.spawn_with(promise, move || worker.run(rt, config, ports, gate))
         else {

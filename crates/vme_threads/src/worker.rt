@@ -2,8 +2,8 @@ ghost use Rattle.std.specs.Prelude.{ℕ, ◌≡◌, ◌<◌, ◌≤◌, ◌+◌,
 ghost use Rattle.vme_line_task.specs.ReadBuffers.{buffers_of};
 
 use crate::gate::Gate;
-use crate::pass_set::PassSet;
 use crate::ports::Ports;
+use crate::processor_pass::ProcessorPass;
 use std::alloc::{AllocError, Global};
 use std::sync::Wait;
 use std::sync::atomic::Ordering;
@@ -19,7 +19,7 @@ use vme_shared::LineReply;
 /// the replies.
 #[derive(Drop)]
 pub struct Worker {
-    pub(crate) pass_set: PassSet,
+    pub(crate) processor_pass: ProcessorPass,
     pub(crate) buffers: ReadBuffers,
     pub(crate) lines: Vec<(u16, LineReply)>,
 }
@@ -28,7 +28,7 @@ pub struct Worker {
 /// line.
 #[derive(Drop)]
 pub struct Ran {
-    pub(crate) pass_set: PassSet,
+    pub(crate) processor_pass: ProcessorPass,
     pub(crate) lines: Vec<(u16, LineReply)>,
 }
 
@@ -49,11 +49,11 @@ impl Worker {
         pass: Pass<BusObject>,
     ) -> Result<Worker, AllocError>
         requires { boards ≤ 21 }
-        ensures who { IfOk result (λ w. w.pass_set.who ≡ pass.who) }
-        ensures boards { IfOk result (λ w. w.pass_set.boards ≡ boards) }
-        ensures pass { IfOk result (λ w. w.pass_set.pass ≡ pass) }
+        ensures who { IfOk result (λ w. w.processor_pass.who ≡ pass.who) }
+        ensures boards { IfOk result (λ w. w.processor_pass.boards ≡ boards) }
+        ensures pass { IfOk result (λ w. w.processor_pass.pass ≡ pass) }
         ensures made { IfOk result (λ w.
-            w.pass_set.made.items ≡ replicate {A = ℕ} (boards + 1) 0) }
+            w.processor_pass.made.items ≡ replicate {A = ℕ} (boards + 1) 0) }
         ensures lines { IfOk result (λ w. vec_len w.lines ≡ 0) }
         ensures lines_capacity { IfOk result (λ w. length script.now ≤ vec_capacity w.lines) }
         ensures buffers { IfOk result (λ w. w.buffers ≡ buffers_of script.now) }
@@ -61,7 +61,7 @@ impl Worker {
         let made = vec![in alloc; 0u64; boards + 1]?;
         let lines = Vec::with_capacity(alloc, script.len())?;
         let buffers = ReadBuffers::new(alloc, script)?;
-        let pass_set = PassSet {
+        let processor_pass = ProcessorPass {
             who: pass.who(),
             boards,
             pass,
@@ -69,7 +69,7 @@ impl Worker {
             wait_state: WaitState::new(),
         };
         Ok(Worker {
-            pass_set,
+            processor_pass,
             buffers,
             lines,
         })
@@ -89,27 +89,30 @@ impl Worker {
         gate: &G,
     ) -> Result<Ran, RunFault>
         requires built { IsBuilt config.now ports.now }
-        requires worker { IsWorkerOf config.now ports.now self.pass_set.who self }
-        requires board { self.pass_set.who < length config.now.boards }
-        ensures { IsEndOfRun config.now ports.now self.pass_set.who result }
+        requires worker { IsWorkerOf config.now ports.now self.processor_pass.who self }
+        requires board { self.processor_pass.who < length config.now.boards }
+        ensures { IsEndOfRun config.now ports.now self.processor_pass.who result }
     {
         let Worker {
-            mut pass_set,
+            mut processor_pass,
             mut buffers,
             mut lines,
         } = self;
-        let slot = config.slot(pass_set.who);
-        for line in 0..line_count(config, pass_set.who) {
-            let number = config.script(pass_set.who).number(line);
+        let slot = config.slot(processor_pass.who);
+        for line in 0..line_count(config, processor_pass.who) {
+            let number = config.script(processor_pass.who).number(line);
             let buffer = buffers.take();
             gate.before(slot, number);
-            let Ok(answer) = pass_set.run_line(rt, config, ports, line, buffer) else {
+            let Ok(answer) = processor_pass.run_line(rt, config, ports, line, buffer) else {
                 ports.stop.store(true, Ordering::SeqCst);
                 return Err(RunFault::Spent);
             };
             gate.after(slot, number);
             lines.push_reserved((number, answer));
         }
-        Ok(Ran { pass_set, lines })
+        Ok(Ran {
+            processor_pass,
+            lines,
+        })
     }
 }

@@ -6,7 +6,7 @@ ghost use Rattle.vme_run_laws.specs.Finished.{AreFinished};
 use std::alloc::Global;
 use std::sync::Wait;
 use std::thread::Threads;
-use vme_run_laws::each_line_comes_to_its_end;
+use vme_run_laws::no_line_is_unfinished;
 use vme_runner::{Gate, Report, RunFault, run_threads};
 use vme_script::Config;
 
@@ -19,6 +19,6 @@ pub fn run_to_the_end<R: Threads + Wait + Sync, G: Gate + Sync>(
 ) -> Result<Report, RunFault>
     ensures { IfOk result (λ report. Each (λ who lines. AreFinished lines.items) report.lines.items) }
 {
-    each_line_comes_to_its_end();
+    no_line_is_unfinished();
     run_threads(rt, alloc, config, gate)
 }

@@ -1,5 +1,4 @@
-//! Each use, run once, except those of `vme_port_array`, `vme_sequential` and `vme_outcomes`. No
-//! program has a report of one order yet.
+//! Each use, run once, except those of `vme_port_array`, `vme_sequential` and `vme_outcomes`.
 ghost use Rattle.std.specs.Prelude.{◌==◌, true, false, if◌then◌else◌};
 
 use crate::{

@@ -9,7 +9,7 @@ use vme_report::RunFault;
 use vme_script::Config;
 use vme_threads::{Gate, Report, run_threads};
 
-// A gate that holds no line.
+// A gate that is always open.
 struct Open;
 
 impl Gate for Open {

@@ -15,7 +15,7 @@ use Rattle.vme_arbiter.specs.Levels.{level_order}
 use Rattle.vme_arbiter.specs.Requests.{BusRequest, bus_request, is_slot, with_request, is_level}
 use Rattle.vme_arbiter.specs.Arbitration.{Arbitration, opening_bus, holds, pends, can_ask, ask_step, lawful_ask, bus_after_release, next_of, arbiter_step}
 use Rattle.vme_arbiter.specs.Orderly.{IsLawfulHolder, IsOrderly}
-use Rattle.vme_arbiter.specs.Masters.{slot_of, may_give, IsAsReplied, StandsAsReplied, GoesByReplies, FollowReplies}
+use Rattle.vme_arbiter.specs.Masters.{slot_of, may_give, IsAsReplied, MatchesReply, SlotFollowsReplies, FollowReplies}
 use Rattle.vme_arbiter.proofs.Pending.{has_slot, has_slot-with, has_slot-without_other, granted-has_slot}
 use Rattle.vme_arbiter.proofs.lemmas.Orderly.{orderly-step, orderly-opening}
 
@@ -42,14 +42,14 @@ may_give-slot slot last cmd may = cc
 
 -- after a valid request, the slot holds or waits as the reply states
 taken-fits : (holder : Option ℕ) (bus : Arbitration) (slot level : ℕ)
-    → StandsAsReplied (lawful_ask holder bus (bus_request level slot)).0 slot (Some (lawful_ask holder bus (bus_request level slot)).1)
+    → MatchesReply (lawful_ask holder bus (bus_request level slot)).0 slot (Some (lawful_ask holder bus (bus_request level slot)).1)
 taken-fits None bus slot level = eq-eqb slot slot refl
 taken-fits (Some h) bus slot level =
     inr (has_slot-with slot (bus_request level slot) bus.pending ∙ or_left _ _ (eq-eqb slot slot refl))
 
 -- after a request by a slot that neither holds nor waits, the slot holds or waits as the reply states
 ask-fits : (bus : Arbitration) (slot level : ℕ) → is_slot slot ≡ true → is_level level ≡ true → holds bus slot ≡ false
-    → pends bus slot ≡ false → StandsAsReplied (ask_step bus slot level).0 slot (Some (ask_step bus slot level).1)
+    → pends bus slot ≡ false → MatchesReply (ask_step bus slot level).0 slot (Some (ask_step bus slot level).1)
 ask-fits bus slot level slot_ok level_ok not_holds not_pends =
     let can : can_ask bus slot level ≡ true =
     and_from _ _ (and_from _ _ (and_from _ _ slot_ok level_ok) (not_from_false _ not_holds)) (not_from_false _ not_pends) in
@@ -57,7 +57,7 @@ ask-fits bus slot level slot_ok level_ok not_holds not_pends =
 
 -- a slot that does not wait neither holds nor waits after it releases the bus
 handed-nowhere : (bus : Arbitration) (slot : ℕ) (next : Option BusRequest) → next_of bus ≡ next → has_slot slot bus.pending ≡ false
-    → StandsAsReplied (bus_after_release next bus) slot (Some Freed)
+    → MatchesReply (bus_after_release next bus) slot (Some Freed)
 handed-nowhere bus slot None is_next none = (refl, none)
 handed-nowhere bus slot (Some next) is_next none =
     let other : next.slot ≢ slot =
@@ -74,7 +74,7 @@ promoted pending (Some Denied) one fits left = fits
 
 -- a slot other than the holder matches its last reply after a release
 handed-other : (bus : Arbitration) (slot : ℕ) (last : Option ArbReply) (next : Option BusRequest) → next_of bus ≡ next
-    → IsAsReplied false (has_slot slot bus.pending) last → StandsAsReplied (bus_after_release next bus) slot last
+    → IsAsReplied false (has_slot slot bus.pending) last → MatchesReply (bus_after_release next bus) slot last
 handed-other bus slot last None is_next fits = fits
 handed-other bus slot last (Some next) is_next fits =
     elim (cases_eq next.slot slot) [
@@ -91,7 +91,7 @@ handed-other bus slot last (Some next) is_next fits =
 
 -- a slot matches its last reply after a request of another slot
 taken-other : (holder : Option ℕ) (bus : Arbitration) (asks level slot : ℕ) (last : Option ArbReply) → bus.holder ≡ holder → asks ≢ slot
-    → StandsAsReplied bus slot last → StandsAsReplied (lawful_ask holder bus (bus_request level asks)).0 slot last
+    → MatchesReply bus slot last → MatchesReply (lawful_ask holder bus (bus_request level asks)).0 slot last
 taken-other None bus asks level slot last is other fits =
     let not_held : eqb asks slot ≡ false = ne_eqb asks slot other in
     rw not_held (rw is at fits)
@@ -115,7 +115,7 @@ holder-not_pends (Some h) bus slot is lawful held =
 
 -- a check by a slot that holds or waits has the reply that matches
 look-fits : (bus : Arbitration) (slot : ℕ) → (holds bus slot ≡ true) ⊎ (pends bus slot ≡ true)
-    → StandsAsReplied (arbiter_step bus (Look slot)).0 slot (Some (arbiter_step bus (Look slot)).1)
+    → MatchesReply (arbiter_step bus (Look slot)).0 slot (Some (arbiter_step bus (Look slot)).1)
 look-fits bus slot fits =
     elim (cases_Bool (holds bus slot)) [
       | inl held ↦ rw held refl
@@ -128,33 +128,33 @@ look-fits bus slot fits =
 
 -- a slot that releases the bus neither holds nor waits afterwards
 done-fits : (bus : Arbitration) (slot : ℕ) → IsOrderly bus → holds bus slot ≡ true
-    → StandsAsReplied (arbiter_step bus (Done slot)).0 slot (Some (arbiter_step bus (Done slot)).1)
+    → MatchesReply (arbiter_step bus (Done slot)).0 slot (Some (arbiter_step bus (Done slot)).1)
 done-fits bus slot orderly held =
     rw held (handed-nowhere bus slot (next_of bus) refl (holder-not_pends bus.holder bus slot refl orderly.holder held))
 
 -- a command that a slot may give leaves it as the reply states
-pub own-turn : (bus : Arbitration) (slot : ℕ) (last : Option ArbReply) (cmd : ArbCmd) → IsOrderly bus → is_slot slot ≡ true
-    → StandsAsReplied bus slot last → may_give slot last cmd ≡ true → StandsAsReplied (arbiter_step bus cmd).0 slot (Some (arbiter_step bus cmd).1)
-own-turn bus slot None (Ask s level) orderly slot_ok fits may =
+pub own-reply : (bus : Arbitration) (slot : ℕ) (last : Option ArbReply) (cmd : ArbCmd) → IsOrderly bus → is_slot slot ≡ true
+    → MatchesReply bus slot last → may_give slot last cmd ≡ true → MatchesReply (arbiter_step bus cmd).0 slot (Some (arbiter_step bus cmd).1)
+own-reply bus slot None (Ask s level) orderly slot_ok fits may =
     let parts = and_parts _ _ may in
     rw (eqb-true s slot parts.0) (ask-fits bus slot level slot_ok parts.1 fits.0 fits.1)
-own-turn bus slot (Some Freed) (Ask s level) orderly slot_ok fits may =
+own-reply bus slot (Some Freed) (Ask s level) orderly slot_ok fits may =
     let parts = and_parts _ _ may in
     rw (eqb-true s slot parts.0) (ask-fits bus slot level slot_ok parts.1 fits.0 fits.1)
-own-turn bus slot (Some Waiting) (Look s) orderly slot_ok fits may = rw (eqb-true s slot may) (look-fits bus slot fits)
-own-turn bus slot (Some Granted) (Done s) orderly slot_ok fits may = rw (eqb-true s slot may) (done-fits bus slot orderly fits)
-own-turn bus slot last cmd orderly slot_ok fits may = cc
+own-reply bus slot (Some Waiting) (Look s) orderly slot_ok fits may = rw (eqb-true s slot may) (look-fits bus slot fits)
+own-reply bus slot (Some Granted) (Done s) orderly slot_ok fits may = rw (eqb-true s slot may) (done-fits bus slot orderly fits)
+own-reply bus slot last cmd orderly slot_ok fits may = cc
 
 -- a command of another slot leaves a slot as its last reply states
-pub other-turn : (bus : Arbitration) (slot : ℕ) (last : Option ArbReply) (cmd : ArbCmd) → slot_of cmd ≢ slot → StandsAsReplied bus slot last
-    → StandsAsReplied (arbiter_step bus cmd).0 slot last
-other-turn bus slot last (Ask asks level) other fits =
+pub other-reply : (bus : Arbitration) (slot : ℕ) (last : Option ArbReply) (cmd : ArbCmd) → slot_of cmd ≢ slot → MatchesReply bus slot last
+    → MatchesReply (arbiter_step bus cmd).0 slot last
+other-reply bus slot last (Ask asks level) other fits =
     elim (cases_Bool (can_ask bus asks level)) [
       | inl can ↦ rw can (taken-other bus.holder bus asks level slot last refl other fits)
       | inr cannot ↦ rw cannot fits
     ]
-other-turn bus slot last (Look looks) other fits = fits
-other-turn bus slot last (Done done) other fits =
+other-reply bus slot last (Look looks) other fits = fits
+other-reply bus slot last (Done done) other fits =
     elim (cases_Bool (holds bus done)) [
       | inl held ↦
           let not_held : holds bus slot ≡ false = other-not_held bus.holder done slot held other in
@@ -163,8 +163,8 @@ other-turn bus slot last (Done done) other fits =
     ]
 
 -- the last reply to each caller, after an entry
-pub reported_last : (ℕ → Option ArbReply) → Entry ArbCmd ArbReply → ℕ → Option ArbReply
-reported_last last e who = cond (eqb e.who who) (Some e.reply) (last who)
+pub last_reply_after : (ℕ → Option ArbReply) → Entry ArbCmd ArbReply → ℕ → Option ArbReply
+last_reply_after last e who = cond (eqb e.who who) (Some e.reply) (last who)
 
 -- the callers 0 to k - 1 are masters, each with a slot of its own
 pub record AreMasters (k : ℕ) (slots : ℕ → ℕ) : Type 0 where
@@ -173,49 +173,49 @@ pub record AreMasters (k : ℕ) (slots : ℕ → ℕ) : Type 0 where
 
 -- after a command of one master, each master's slot holds or waits as its last reply states
 pub all_stand : (k : ℕ) (slots : ℕ → ℕ) (bus : Arbitration) (last : ℕ → Option ArbReply) (e : Entry ArbCmd ArbReply) → AreMasters k slots
-    → e.who < k → slot_of e.cmd ≡ slots e.who → StandsAsReplied (arbiter_step bus e.cmd).0 (slots e.who) (Some e.reply)
-    → ((who : ℕ) → who < k → StandsAsReplied bus (slots who) (last who))
-    → (who : ℕ) → who < k → StandsAsReplied (arbiter_step bus e.cmd).0 (slots who) (reported_last last e who)
-unfolding reported_last
+    → e.who < k → slot_of e.cmd ≡ slots e.who → MatchesReply (arbiter_step bus e.cmd).0 (slots e.who) (Some e.reply)
+    → ((who : ℕ) → who < k → MatchesReply bus (slots who) (last who))
+    → (who : ℕ) → who < k → MatchesReply (arbiter_step bus e.cmd).0 (slots who) (last_reply_after last e who)
+unfolding last_reply_after
 all_stand k slots bus last e masters within names stands each who below =
     elim (cases_Bool (eqb e.who who)) [
       | inl same ↦
           let at : e.who ≡ who = eqb-true e.who who same in
-          rw same (subst (λ (w : ℕ). StandsAsReplied (arbiter_step bus e.cmd).0 (slots w) (Some e.reply)) at stands)
+          rw same (subst (λ (w : ℕ). MatchesReply (arbiter_step bus e.cmd).0 (slots w) (Some e.reply)) at stands)
       | inr other ↦
-          rw other (other-turn bus (slots who) (last who) e.cmd
+          rw other (other-reply bus (slots who) (last who) e.cmd
           (λ one. eqb-false e.who who other (masters.apart e.who who within below (sym names ∙ one))) (each who below))
     ]
 
 -- each master matches its last reply and follows the replies from there
 record AreFit (k : ℕ) (slots : ℕ → ℕ) (bus : Arbitration) (last : ℕ → Option ArbReply) (h : List (Entry ArbCmd ArbReply)) : Type 0 where
-  fits : (who : ℕ) → who < k → StandsAsReplied bus (slots who) (last who)
-  goes : (who : ℕ) → who < k → GoesByReplies (slots who) (last who) (own who h)
+  fits : (who : ℕ) → who < k → MatchesReply bus (slots who) (last who)
+  goes : (who : ℕ) → who < k → SlotFollowsReplies (slots who) (last who) (own who h)
 
 -- a master that follows the replies may give the command of its next entry, and follows the replies after that entry
 goes_own : (slot : ℕ) (last : Option ArbReply) (e : Entry ArbCmd ArbReply) (h : List (Entry ArbCmd ArbReply))
-    → GoesByReplies slot last (own e.who (e ∷ h))
-    → (may_give slot last e.cmd ≡ true) × GoesByReplies slot (Some e.reply) (own e.who h)
+    → SlotFollowsReplies slot last (own e.who (e ∷ h))
+    → (may_give slot last e.cmd ≡ true) × SlotFollowsReplies slot (Some e.reply) (own e.who h)
 goes_own slot last e h goes = let same : eqb e.who e.who ≡ true = eq-eqb e.who e.who refl in rw same at goes
 
 -- each master matches its last reply after the next legal entry
 fit_after : (k : ℕ) (slots : ℕ → ℕ) (bus : Arbitration) (last : ℕ → Option ArbReply) (e : Entry ArbCmd ArbReply)
     (h : List (Entry ArbCmd ArbReply)) → AreMasters k slots → IsOrderly bus → e.who < k → e.reply ≡ (arbiter_step bus e.cmd).1
     → AreFit k slots bus last (e ∷ h)
-    → StandsAsReplied (arbiter_step bus e.cmd).0 (slots e.who) (Some e.reply) × AreFit k slots (arbiter_step bus e.cmd).0 (reported_last last e) h
-unfolding reported_last
+    → MatchesReply (arbiter_step bus e.cmd).0 (slots e.who) (Some e.reply) × AreFit k slots (arbiter_step bus e.cmd).0 (last_reply_after last e) h
+unfolding last_reply_after
 fit_after k slots bus last e h masters orderly within reply fit =
     let goes = goes_own (slots e.who) (last e.who) e h (fit.goes e.who within) in
     let names = may_give-slot (slots e.who) (last e.who) e.cmd goes.0 in
-    let own_fits : StandsAsReplied (arbiter_step bus e.cmd).0 (slots e.who) (Some e.reply) =
-    rw reply (own-turn bus (slots e.who) (last e.who) e.cmd orderly (masters.in_range e.who within) (fit.fits e.who within) goes.0) in (
+    let own_fits : MatchesReply (arbiter_step bus e.cmd).0 (slots e.who) (Some e.reply) =
+    rw reply (own-reply bus (slots e.who) (last e.who) e.cmd orderly (masters.in_range e.who within) (fit.fits e.who within) goes.0) in (
       own_fits,
       record {
         fits = all_stand k slots bus last e masters within names own_fits fit.fits;
         goes = λ who below. elim (cases_Bool (eqb e.who who)) [
           | inl same ↦
               let at : e.who ≡ who = eqb-true e.who who same in
-              rw same (subst (λ (w : ℕ). GoesByReplies (slots w) (Some e.reply) (own w h)) at goes.1)
+              rw same (subst (λ (w : ℕ). SlotFollowsReplies (slots w) (Some e.reply) (own w h)) at goes.1)
           | inr other ↦ rw other (rw other at (fit.goes who below))
         ];
       },
@@ -230,14 +230,14 @@ none_denied k slots bus last (e ∷ h) masters orderly known legal fit =
     let within = All-head (λ e. e.who < k) e h known in
     let after = fit_after k slots bus last e h masters orderly within legal.0 fit in
     All-cons (λ e. e.reply ≢ Denied) e h
-    (λ denied. subst (λ (r : ArbReply). StandsAsReplied (arbiter_step bus e.cmd).0 (slots e.who) (Some r)) denied after.0)
-    (none_denied k slots (arbiter_step bus e.cmd).0 (reported_last last e) h masters (orderly-step bus e.cmd orderly)
+    (λ denied. subst (λ (r : ArbReply). MatchesReply (arbiter_step bus e.cmd).0 (slots e.who) (Some r)) denied after.0)
+    (none_denied k slots (arbiter_step bus e.cmd).0 (last_reply_after last e) h masters (orderly-step bus e.cmd orderly)
     (All-tail (λ e. e.who < k) e h known) legal.1 after.1)
 
 -- no reply of a legal history from the start is Denied if the masters follow the replies
-pub turns_granted : (kind : ArbiterKind) (k : ℕ) (slots : ℕ → ℕ) (h : List (Entry ArbCmd ArbReply))
+pub no_denial_from_opening : (kind : ArbiterKind) (k : ℕ) (slots : ℕ → ℕ) (h : List (Entry ArbCmd ArbReply))
     → IsLegal arbiter_step (opening_bus kind) h → FollowReplies k slots h → All (λ e. e.reply ≢ Denied) h
-turns_granted kind k slots h legal turns =
+no_denial_from_opening kind k slots h legal turns =
     none_denied k slots (opening_bus kind) (λ who. None) h
     (record { in_range = turns.in_range; apart = turns.apart }) (orderly-opening kind) turns.known legal
     (record { fits = λ who below. (refl, refl); goes = turns.each })

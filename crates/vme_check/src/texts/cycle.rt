@@ -75,7 +75,7 @@ pub(crate) fn write_message(cause: CycleCause, to: &mut String) -> Result<(), Al
     }
 }
 
-/// Appends what helps, or nothing.
+/// Appends the help of a cause, or nothing.
 ///
 /// # Errors
 ///

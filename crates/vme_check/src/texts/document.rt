@@ -1,10 +1,12 @@
 //! The texts of faults of a file as a document.
 use crate::context::Context;
+use crate::located::Input;
 use crate::texts::names::{keys_of, near_key, table_name};
 use crate::texts::quote::push_quoted;
 use memchr::memmem;
 use std::alloc::AllocError;
 use std::fmt::Write;
+use toml::de::Error;
 use vme_findings::{DocumentCause, Key, Place, TableName, ValueKind};
 use vme_positions::Span;
 
@@ -73,7 +75,7 @@ pub(crate) fn write_message(
     }
 }
 
-/// Appends what helps, or nothing.
+/// Appends the help of a cause, or nothing.
 ///
 /// # Errors
 ///
@@ -114,8 +116,8 @@ pub(crate) fn write_help(
     }
 }
 
-/// Appends the message of an error of TOML. That about values lists all kinds of them, so the word
-/// is named in its place.
+/// Appends the message of a TOML error. The message about an invalid value lists all kinds of
+/// values, so a message that quotes the word is appended in its place.
 fn write_toml_message(message: &str, word: &[u8], to: &mut String) -> Result<(), AllocError> {
     if !message.starts_with("invalid value") {
         return to.push_str(message);
@@ -127,17 +129,20 @@ fn write_toml_message(message: &str, word: &[u8], to: &mut String) -> Result<(),
     to.push_str(" is not a value")
 }
 
-/// The offset of the quotes that open a string which does not end: the last three quotes of a text,
-/// if the text ends within a string.
-pub(crate) fn note_offset(cause: DocumentCause, text: &[u8], span: Span) -> Option<usize> {
+/// The offset of the note of a cause: where a repeated key stands first, or the quotes that open a
+/// string which does not end.
+pub(crate) fn note_offset(cause: DocumentCause, input: &Input<'_>, span: Span) -> Option<usize> {
     let DocumentCause::NotToml { error } = cause else {
         return None;
     };
-    if span.from < text.len() || !error.message().starts_with("invalid string") {
+    if is_repeated_key(error) {
+        return Some(input.outline?.first_of_key(input.text, span)?.from);
+    }
+    if span.from < input.text.len() || !error.message().starts_with("invalid string") {
         return None;
     }
-    let basic = memmem::rfind(text, b"\"\"\"");
-    let literal = memmem::rfind(text, b"'''");
+    let basic = memmem::rfind(input.text, b"\"\"\"");
+    let literal = memmem::rfind(input.text, b"'''");
     match (basic, literal) {
         (Some(basic), Some(literal)) => Some(basic.max(literal)),
         (basic, None) => basic,
@@ -145,7 +150,22 @@ pub(crate) fn note_offset(cause: DocumentCause, text: &[u8], span: Span) -> Opti
     }
 }
 
-/// Appends what helps where a word is not a TOML value.
+/// Appends the text of the note of a cause.
+pub(crate) fn write_note(cause: DocumentCause, to: &mut String) -> Result<(), AllocError> {
+    match cause {
+        DocumentCause::NotToml { error } if is_repeated_key(error) => {
+            to.push_str("the key is first here")
+        }
+        _ => to.push_str("the string begins here"),
+    }
+}
+
+/// Whether an error of TOML is that of a key which is there already.
+fn is_repeated_key(error: Error) -> bool {
+    error.message() == "duplicate key"
+}
+
+/// Appends the help for a word that is not a TOML value, or nothing.
 fn write_toml_help(word: &[u8], to: &mut String) -> Result<(), AllocError> {
     if word.eq_ignore_ascii_case(b"true") || word.eq_ignore_ascii_case(b"false") {
         return to.push_str("write true or false in small letters");
@@ -178,7 +198,7 @@ fn write_toml_help(word: &[u8], to: &mut String) -> Result<(), AllocError> {
     Ok(())
 }
 
-/// Digits without the zeros at their start, but for the last digit.
+/// Digits without leading zeros; `0` if all of them are zeros.
 fn without_zeros(digits: &[u8]) -> &[u8] {
     for (at, byte) in digits.iter().enumerate() {
         if *byte != b'0' {
@@ -188,7 +208,7 @@ fn without_zeros(digits: &[u8]) -> &[u8] {
     b"0"
 }
 
-/// Appends what helps with an unknown key: the table that has it, or a key that is near.
+/// Appends the help for an unknown key: the table that has it, or a key with a similar name.
 fn write_key_help(context: &Context<'_>, to: &mut String) -> Result<(), AllocError> {
     let table = table_of(context.place);
     let word = context.word;
@@ -215,7 +235,7 @@ fn is_key(table: TableName, word: &[u8]) -> bool {
     keys_of(table).iter().any(|name| name.as_bytes() == word)
 }
 
-/// Appends which unknown key of the table may be the missing one, if one is near.
+/// Appends which unknown key of the table may be the missing one, if one has a similar name.
 fn write_missing_help(key: Key, context: &Context<'_>, to: &mut String) -> Result<(), AllocError> {
     let Place::Table { table, index } = context.place else {
         return Ok(());
@@ -247,7 +267,7 @@ fn table_of(place: Place) -> TableName {
     }
 }
 
-/// Appends what a message about a value is about: the key, or the element of an array.
+/// Appends the subject of a message about a value: the key, or the element of an array.
 fn push_subject(place: Place, to: &mut String) -> Result<(), AllocError> {
     match place {
         Place::Key { key, .. } | Place::Value { key, .. } => {
@@ -280,7 +300,7 @@ fn push_more(more: usize, to: &mut String) -> Result<(), AllocError> {
     }
 }
 
-/// What a value is.
+/// The kind of a value, in words.
 fn kind_name(kind: ValueKind) -> &'static str {
     match kind {
         ValueKind::Text => "a string",
@@ -293,7 +313,7 @@ fn kind_name(kind: ValueKind) -> &'static str {
     }
 }
 
-/// What a key takes.
+/// The values that a key takes, in words.
 fn wanted_name(kind: ValueKind) -> &'static str {
     match kind {
         ValueKind::Text => "a string",

@@ -112,7 +112,7 @@ pub(crate) fn write_message(
     }
 }
 
-/// Appends what helps, or nothing.
+/// Appends the help of a cause, or nothing.
 ///
 /// # Errors
 ///
@@ -154,7 +154,7 @@ pub(crate) fn write_help(
     }
 }
 
-/// Appends what helps where a word is not a command.
+/// Appends the help for a word that is not a command, or nothing.
 fn write_command_help(context: &Context<'_>, to: &mut String) -> Result<(), AllocError> {
     let word = context.word;
     if word.contains(&b'\t') {

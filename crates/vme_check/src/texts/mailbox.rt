@@ -69,7 +69,7 @@ pub(crate) fn write_message(
     }
 }
 
-/// Appends what helps, or nothing.
+/// Appends the help of a cause, or nothing.
 ///
 /// # Errors
 ///
@@ -112,7 +112,7 @@ pub(crate) fn write_note(cause: MailboxCause, to: &mut String) -> Result<(), All
     }
 }
 
-/// What a code is that no mailbox takes.
+/// The kind of a code that no mailbox takes, in words.
 fn kind_of(am: u32) -> &'static str {
     match am {
         0x0b | 0x0f | 0x3b | 0x3f | 0x08 | 0x0c | 0x38 | 0x3c => "a block code",

@@ -1,4 +1,5 @@
-//! Names of spaces, keys and commands in messages, and the names that are near to a wrong one.
+//! Names of spaces, keys and commands in messages, and the names that are similar to a misspelt
+//! one.
 use std::alloc::{AllocError, Global};
 use std::fmt::Write;
 use std::str;
@@ -27,8 +28,8 @@ static BOARD_KEYS: [&str; 11] = [
 /// The names of the keys of a mailbox.
 static MAILBOX_KEYS: [&str; 3] = ["am", "addr", "slots"];
 
-/// The commands that a misspelt word is compared with. Those of one or two letters are near to any
-/// short word.
+/// The commands that a misspelt word is compared with. Commands of one or two letters would be
+/// similar to any short word.
 static LONG_COMMANDS: [&str; 5] = ["await", "lock", "unlock", "put", "take"];
 
 /// The functions of a read-modify-write.
@@ -37,7 +38,8 @@ static FUNCTIONS: [&str; 4] = ["set", "xchg", "add", "cas"];
 /// The greatest length of a word that is compared with names.
 const LONGEST: usize = 16;
 
-/// The greatest length of a name that one edit may change; a longer one may have two.
+/// The greatest length of a name from which a word may differ by one edit; from a longer name it
+/// may differ by two.
 const SHORT: usize = 4;
 
 /// Returns the name of a space as a file has it.
@@ -49,8 +51,7 @@ pub(crate) fn space_name(space: Space) -> &'static str {
     }
 }
 
-/// Appends how a board is named: by its slot, or by its number among the boards if the slot is
-/// refused.
+/// Appends the name of a board: its slot, or its number among the boards if the slot is refused.
 ///
 /// # Errors
 ///
@@ -74,7 +75,7 @@ pub(crate) fn keys_of(table: TableName) -> &'static [&'static str] {
     }
 }
 
-/// Returns what a table is called.
+/// Returns the name of a table in messages.
 pub(crate) fn table_name(table: TableName) -> &'static str {
     match table {
         TableName::File => "the file",
@@ -83,7 +84,8 @@ pub(crate) fn table_name(table: TableName) -> &'static str {
     }
 }
 
-/// Returns the key of a table that was meant by a word, if one is near.
+/// Returns the key of a table that a word probably means: one with a similar name, or one with the
+/// same meaning.
 ///
 /// # Errors
 ///
@@ -99,8 +101,8 @@ pub(crate) fn near_key(
     Ok(other_word(table, word))
 }
 
-/// Returns the command that was meant by a word, if one is near: the same word in small letters, or
-/// a longer command.
+/// Returns the command that a word probably means: the same word in small letters, or a longer
+/// command with a similar name.
 ///
 /// # Errors
 ///
@@ -127,7 +129,7 @@ pub(crate) fn near_command(alloc: Global, word: &[u8]) -> Result<Option<&'static
     near(alloc, word, LONG_COMMANDS.as_slice())
 }
 
-/// Returns the function that was meant by a word, if one is near.
+/// Returns the function that a word probably means, if one has a similar name.
 ///
 /// # Errors
 ///
@@ -175,7 +177,7 @@ fn most_edits(name: &str) -> usize {
     if name.len() <= SHORT { 1 } else { 2 }
 }
 
-/// The key of a table that another word of the same meaning stands for.
+/// The key of a table that has the same meaning as another word.
 fn other_word(table: TableName, word: &[u8]) -> Option<&'static str> {
     let name = str::from_utf8(word).ok()?;
     match table {

@@ -43,7 +43,7 @@ pub(crate) fn write_message(
     }
 }
 
-/// Appends what helps, or nothing.
+/// Appends the help of a cause, or nothing.
 ///
 /// # Errors
 ///

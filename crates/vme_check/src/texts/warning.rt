@@ -51,7 +51,7 @@ pub(crate) fn write_message(
     }
 }
 
-/// Appends what helps with a warning of a file, or nothing.
+/// Appends the help of a warning of a file, or nothing.
 ///
 /// # Errors
 ///
@@ -117,7 +117,7 @@ pub(crate) fn write_line_message(warning: LineWarning, to: &mut String) -> Resul
     }
 }
 
-/// Appends what helps with a warning of a line, or nothing.
+/// Appends the help of a warning of a line, or nothing.
 ///
 /// # Errors
 ///

@@ -9,7 +9,7 @@ below_power base n i most some small few =
     let high : base ^ i ≤ base ^ most = pow-le-pow_right {n = base} some {i = i} {j = most} few in
     omega (arith, high, small)
 
--- one more byte of a number is spelled
+-- if the last byte of the remaining number is put before the bytes so far, all bytes of the number stay the same
 pub byte_more :
     (len place rest : ℕ) (bytes new all : List ℕ) → place < len → bytes_onto (len - place) rest bytes ≡ all → new ≡ (rest % 256) ∷ bytes
     → bytes_onto (len - (place + 1)) (rest / 256) new ≡ all

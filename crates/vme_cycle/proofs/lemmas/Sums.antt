@@ -11,7 +11,7 @@ power_some : (len : ℕ) → 0 < 256 ^ len
 power_some zero = omega arith
 power_some (suc len) = rw pow-suc (let less = power_some len in omega (arith, less))
 
--- one more digit in the higher part
+-- a digit that is appended to a number in two parts is appended to its lower part
 digit_more :
     (before high low p : ℕ) → 256 * (before * p + high) + low ≡ before * (p * 256) + (high * 256 + low)
 digit_more before high low p = grind arith
@@ -31,7 +31,7 @@ number_onto (suc len) n before rest =
 pub number_of-number_bytes : (len n : ℕ) → number_of (number_bytes len n) ≡ n % 256 ^ len
 number_of-number_bytes len n = number_onto len n 0 [] ∙ omega arith
 
--- the last len bytes of a number, followed by some bytes, are len more than these
+-- the last len bytes of a number, followed by some bytes, are len bytes more than those
 onto_len : (len n : ℕ) (rest : List ℕ) → length (bytes_onto len n rest) ≡ len + length rest
 onto_len zero n rest = omega arith
 onto_len (suc len) n rest = onto_len len (n / 256) ((n % 256) ∷ rest) ∙ omega arith

@@ -15,7 +15,7 @@ use Rattle.vme_cycle.specs.Parts.{IsLawful}
 use Rattle.vme_cycle.specs.SignalLines.{SignalLines, chosen_len, sensed_at}
 use Rattle.vme_cycle.specs.Plans.{location_from, own_location, signals_of}
 use Rattle.vme_cycle.proofs.Lawful.{lawful}
-use Rattle.vme_cycle.proofs.Blocks.{datum_found, datum_placed, counts_on}
+use Rattle.vme_cycle.proofs.Blocks.{datum_found, datum_placed, sensed_own}
 
 -- the facts of the request from which a transfer was made
 pub record ComesFrom (request : Request) (t : Transfer) : Type 0 where
@@ -85,7 +85,7 @@ own_sensed_at t i at is less same =
     let first_is = own_is t zero first.0 first.1 in
     let here = own_is t i own.0 own.1 in
     sensed_alike (signals_of t i) at (address_of t.request i) same
-    ∙ counts_on t.am t.request i first.0 own.0 (signals_of t i) is less first.1 own.1 refl (rw (← first_is, ← here) refl)
+    ∙ sensed_own t.am t.request i first.0 own.0 (signals_of t i) is less first.1 own.1 refl (rw (← first_is, ← here) refl)
     ∙ ap Some (sym here)
 
 -- the own location of a datum has its place and, with the code, its length

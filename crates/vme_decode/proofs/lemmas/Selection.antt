@@ -9,13 +9,13 @@ use Rattle.vme_decode.specs.declared.entry.Entry.{Entry}
 use Rattle.vme_decode.specs.Entries.{covers, admits}
 use Rattle.vme_decode.specs.Lawful.{first_refusal}
 use Rattle.vme_cycle.specs.SignalLines.{first_byte}
-use Rattle.vme_decode.specs.Select.{responds, selection_at, selection, FallsTo, IsSelected}
+use Rattle.vme_decode.specs.Select.{responds, selection_at, selection, RespondsAt, IsSelected}
 use Rattle.vme_decode.proofs.Ranges.{Has, has_from_covers, covers_from_has}
 use Rattle.vme_decode.proofs.Aligned.{lawful_entry, same_remainder}
 use Rattle.vme_decode.proofs.Apart.{one_place}
 use Rattle.vme_decode.proofs.Found.{first_from, found_at, only_one}
 
--- a selection comes from an entry that was found
+-- the position and the offset of a selection are those of the entry that was found
 found_from : (found : Option (ℕ × Entry)) (addr place offset : ℕ)
     → option_map {U = ℕ × ℕ} (λ p. (p.0, addr - p.1.base)) found ≡ Some (place, offset)
     → (entry : Entry) × (found ≡ Some (place, entry)) × (addr - entry.base ≡ offset)
@@ -24,7 +24,7 @@ found_from (Some p) addr place offset chosen =
     let same = some_pair_parts p.0 place (addr - p.1.base) offset chosen in
     (p.1, ap (λ k. Some (k, p.1)) same.0, same.1)
 
--- a search that finds no pair finds nothing
+-- an option that has no pair is None
 no_pair : (found : Option (ℕ × ℕ)) → ((place offset : ℕ) → found ≡ Some (place, offset) → ⊥) → found ≡ None
 no_pair None none = refl
 no_pair (Some p) none = absurd (none p.0 p.1 refl)
@@ -36,11 +36,11 @@ responding entry code addr responds_is =
     let parts = and_parts (covers entry code.space addr) (admits entry code) responds_is in
     (has_from_covers entry code.space addr parts.0, parts.1)
 
--- a code and an address fall to the entry that is selected for them
-pub place_falls : (entries : List Entry) (code : CodeRow) (addr place offset : ℕ)
-    → selection_at entries code addr ≡ Some (place, offset) → FallsTo entries code addr place offset
+-- the entry that is selected for a code and an address responds to them
+pub place_responds : (entries : List Entry) (code : CodeRow) (addr place offset : ℕ)
+    → selection_at entries code addr ≡ Some (place, offset) → RespondsAt entries code addr place offset
 unfolding first_from
-place_falls entries code addr place offset chosen =
+place_responds entries code addr place offset chosen =
     let test = λ (entry : Entry). responds entry code addr in
     let from = found_from (first_from test 0 entries) addr place offset chosen in
     let at = found_at test entries place from.0 from.1 in
@@ -54,10 +54,10 @@ place_falls entries code addr place offset chosen =
       within = omega (arith, shows.0.below, from.2, shows.0.from);
     }
 
--- an entry to which a code and an address fall responds to them
-falls_responds : (entries : List Entry) (code : CodeRow) (addr place offset : ℕ) (facts : FallsTo entries code addr place offset)
+-- an entry that has the code's space, admits the code and contains the address passes the test `responds`
+responds_by_facts : (entries : List Entry) (code : CodeRow) (addr place offset : ℕ) (facts : RespondsAt entries code addr place offset)
     → responds facts.entry code addr ≡ true
-falls_responds entries code addr place offset facts =
+responds_by_facts entries code addr place offset facts =
     let has : Has facts.entry code.space addr =
     record { space_is = facts.space; from = omega (arith, facts.distance); below = omega (arith, facts.within, facts.distance) } in
     and_from _ _ (covers_from_has facts.entry code.space addr has) facts.admits
@@ -67,8 +67,8 @@ pub nothing_selected : (entries : List Entry) (code : CodeRow) (addr : ℕ)
     → ((place : ℕ) (entry : Entry) → slice_get entries place ≡ Some entry → responds entry code addr ≡ true → ⊥)
     → selection_at entries code addr ≡ None
 nothing_selected entries code addr none = no_pair (selection_at entries code addr) (λ place offset chosen.
-    let facts = place_falls entries code addr place offset chosen in
-    none place facts.entry facts.there (falls_responds entries code addr place offset facts))
+    let facts = place_responds entries code addr place offset chosen in
+    none place facts.entry facts.there (responds_by_facts entries code addr place offset facts))
 
 -- in a lawful map, an entry that responds is the selected one
 pub selected_by : (entries : List Entry) (code : CodeRow) (addr place : ℕ) (entry : Entry) → first_refusal entries ≡ None
@@ -83,11 +83,11 @@ selected_by entries code addr place entry lawful there responds_is =
     (λ k e at_k responds_k.
     one_place entries k place e entry code.space addr lawful at_k there (covers_of e responds_k) (covers_of entry responds_is)))
 
--- in a lawful map, the entry to which a code and an address fall is the selected one
-pub falls_place : (entries : List Entry) (code : CodeRow) (addr place offset : ℕ) → first_refusal entries ≡ None
-    → FallsTo entries code addr place offset → selection_at entries code addr ≡ Some (place, offset)
-falls_place entries code addr place offset lawful facts =
-    let responds_is = falls_responds entries code addr place offset facts in
+-- in a lawful map, an entry that has the code's space, admits the code and contains the address is the selected one
+pub responds_place : (entries : List Entry) (code : CodeRow) (addr place offset : ℕ) → first_refusal entries ≡ None
+    → RespondsAt entries code addr place offset → selection_at entries code addr ≡ Some (place, offset)
+responds_place entries code addr place offset lawful facts =
+    let responds_is = responds_by_facts entries code addr place offset facts in
     let distance : addr - facts.entry.base ≡ offset = omega (arith, facts.distance) in
     selected_by entries code addr place facts.entry lawful facts.there responds_is ∙ ap (λ o. Some (place, o)) distance
 
@@ -95,7 +95,7 @@ falls_place entries code addr place offset lawful facts =
 pub place_remainder : (entries : List Entry) (code : CodeRow) (addr place offset : ℕ) → first_refusal entries ≡ None
     → selection_at entries code addr ≡ Some (place, offset) → offset % 4 ≡ addr % 4
 place_remainder entries code addr place offset lawful chosen =
-    let facts = place_falls entries code addr place offset chosen in
+    let facts = place_responds entries code addr place offset chosen in
     same_remainder facts.entry.base addr offset (lawful_entry entries place facts.entry lawful facts.there).aligned facts.distance
 
 -- in a lawful map, an address has the same remainder modulo four from the base of an entry that responds
@@ -113,7 +113,7 @@ unfolding selection
 selected_facts entries s place offset chosen =
     option_and_then_some (selection_at entries s.am) (first_byte s) (place, offset) chosen
     (λ addr first chosen_at.
-    record { addr = addr; first = first; falls = place_falls entries s.am addr place offset chosen_at })
+    record { addr = addr; first = first; falls = place_responds entries s.am addr place offset chosen_at })
 
 -- the code of a cycle and the address of its first byte determine its selection
 pub selection_by : (entries : List Entry) (s : SignalLines) (addr : ℕ) → first_byte s ≡ Some addr
@@ -125,7 +125,7 @@ selection_by entries s addr first = ap (option_and_then (selection_at entries s.
 pub facts_selected : (entries : List Entry) (s : SignalLines) (place offset : ℕ) → first_refusal entries ≡ None
     → IsSelected entries s place offset → selection entries s ≡ Some (place, offset)
 facts_selected entries s place offset lawful facts =
-    selection_by entries s facts.addr facts.first ∙ falls_place entries s.am facts.addr place offset lawful facts.falls
+    selection_by entries s facts.addr facts.first ∙ responds_place entries s.am facts.addr place offset lawful facts.falls
 
 -- the cycle selects the entry that a function returned as its selection
 pub result_facts : (result : Option (ℕ × ℕ)) (entries : List Entry) (s : SignalLines) → result ≡ selection entries s
@@ -138,7 +138,7 @@ pub result_place : (result : Option (ℕ × ℕ)) (entries : List Entry) (code :
     → result ≡ selection_at entries code addr → IfSome result (λ found. found.0 < length entries)
 result_place None entries code addr result_is = tt
 result_place (Some found) entries code addr result_is =
-    let facts = place_falls entries code addr found.0 found.1 (sym result_is) in
+    let facts = place_responds entries code addr found.0 found.1 (sym result_is) in
     slice_get_within entries found.0 facts.entry facts.there
 
 -- a function that returns the selection returns an offset of at most the address
@@ -146,7 +146,7 @@ pub result_offset : (result : Option (ℕ × ℕ)) (entries : List Entry) (code 
     → result ≡ selection_at entries code addr → IfSome result (λ found. found.1 ≤ addr)
 result_offset None entries code addr result_is = tt
 result_offset (Some found) entries code addr result_is =
-    let facts = place_falls entries code addr found.0 found.1 (sym result_is) in
+    let facts = place_responds entries code addr found.0 found.1 (sym result_is) in
     let distance = facts.distance in omega arith
 
 -- in a lawful map, a function that returns the selection returns an offset with the address's remainder modulo four

@@ -14,18 +14,18 @@ use Rattle.vme_lexer.specs.Words.{words_of}
 use Rattle.vme_grammar.specs.Operands.{Operands, no_operands}
 use Rattle.vme_grammar.specs.Fields.{with_field}
 use Rattle.vme_grammar.specs.Forms.{Place, Word, Of, places, name_of, field_at, fields_of, forms, line_at}
-use Rattle.vme_grammar.specs.Grammar.{go_by, form_of, fields_read, operands_of, line_of_words, line_if_any, line_of, Fill, no_place, word, field, Spell, IsOwnLine}
+use Rattle.vme_grammar.specs.Grammar.{matches_fixed, form_of, fields_read, operands_of, line_of_words, line_if_any, line_of, Fill, no_place, word, field, Spell, IsOwnLine}
 use Rattle.vme_grammar.specs.Naming.{function_of}
 use Rattle.vme_grammar.proofs.Cases.{cases_Option, cases_Result}
 use Rattle.vme_grammar.proofs.Naming.{find_passes, own_word}
 
--- filled places are as many as their words
+-- words that fill places are as many as the places
 count_filled : {some : List Place} {words : List (List ℕ)} {o given : Operands} → Fill some words o given → length words ≡ length some
 count_filled no_place = refl
 count_filled (word rest) = ap suc (count_filled rest)
 count_filled (field spelled rest) = ap suc (count_filled rest)
 
--- a list of places has as many fields
+-- a list of places has as many fields as places
 length_fields : (some : List Place) → length (map field_at some) ≡ length some
 length_fields [] = refl
 length_fields (place ∷ some) = ap suc (length_fields some)
@@ -72,7 +72,7 @@ found Take (word rest) = own_word Take _
 
 -- words that match the fixed words, are as many as the places, and spell each field fill the places
 fills :
-    (some : List Place) (words : List (List ℕ)) (o given : Operands) → go_by false some words ≡ true → length words ≡ length some
+    (some : List Place) (words : List (List ℕ)) (o given : Operands) → matches_fixed false some words ≡ true → length words ≡ length some
     → fields_read (map field_at some) words o ≡ Ok given → Fill some words o given
 unfolding with_field
 fills [] [] o given agree count read = let same : o ≡ given = cc in rw (← same) no_place
@@ -92,15 +92,15 @@ fills (Of kind ∷ more) (text ∷ words) o given agree count read =
     ]
 
 -- words match the fixed words of their form
-form_agrees : (words : List (List ℕ)) (form : LineForm) → form_of words ≡ Ok form → go_by false (places form) words ≡ true
+form_agrees : (words : List (List ℕ)) (form : LineForm) → form_of words ≡ Ok form → matches_fixed false (places form) words ≡ true
 unfolding form_of
 form_agrees words form is =
-    elim (cases_Bool (list_any (λ form. go_by true (places form) words) forms)) [
-      | inl known ↦ elim (cases_Option (find (λ form. go_by false (places form) words) forms)) [
+    elim (cases_Bool (list_any (λ form. matches_fixed true (places form) words) forms)) [
+      | inl known ↦ elim (cases_Option (find (λ form. matches_fixed false (places form) words) forms)) [
         | inl none ↦ absurd (let bad = rw (known, none) at is in cc)
         | inr (own, there) ↦
             let same : own ≡ form = cc (rw (known, there) at is) in
-            rw (← same) (find_passes (λ form. go_by false (places form) words) forms own there)
+            rw (← same) (find_passes (λ form. matches_fixed false (places form) words) forms own there)
       ]
       | inr unknown ↦ absurd (let bad = rw unknown at is in cc)
     ]
@@ -144,12 +144,13 @@ spelled_read words line spelled =
     = eq-eqb _ _ (count_filled filled ∙ sym (length_fields (places spelled.form))) in
     rw (found spelled.form filled, count, filled_read filled) (ap Ok (sym spelled.same))
 
--- words that spell a line are not empty
+-- if words spell a line, `line_if_any` returns it
 read_if_any : (words : List (List ℕ)) (line : Line) → line_of_words words ≡ Ok line → line_if_any words ≡ Ok (Some line)
 unfolding line_of_words form_of
 read_if_any [] line read = absurd (cc)
 read_if_any (text ∷ words) line read = rw read refl
 
+-- a line that `line_if_any` returns is the one that the words spell
 any_read : (words : List (List ℕ)) (line : Line) → line_if_any words ≡ Ok (Some line) → line_of_words words ≡ Ok line
 any_read [] line read = absurd (cc)
 any_read (text ∷ words) line read =
@@ -175,6 +176,7 @@ unfolding line_of
 spelled_line_is_read text line short spelled =
     rw (le-ltb _ _ short, read_if_any (words_of text) line (spelled_read (words_of text) line spelled)) refl
 
+-- the line of a form commands the local port to do no bus cycle
 own_at : (form : LineForm) (o : Operands) → IsOwnLine (line_at form o)
 own_at Read o = tt
 own_at Write o = tt

@@ -1,4 +1,4 @@
--- Text that is gathered and written in pieces, until a whole is written.
+-- Text that is gathered and written in pieces, until all of it is written.
 use Rattle.std.proofs.Common.{◌≡◌, ℕ, List, [], ◌++◌, Option, refl, sym, ap, ◌∙◌, append_assoc}
 use Rattle.std.proofs.lemmas.List.{append-nil}
 use Rattle.std.specs.Io.KnownBytes.{Appends}
@@ -9,20 +9,20 @@ use Rattle.vme_io.proofs.lemmas.Appending.{Appends-none, Appends-more, AppendsPr
 pub printed_gathers :
     (old new : Option (List ℕ)) (before text printed after : List ℕ) → Gathers old new printed after [] → printed ≡ before ++ text
     → Gathers old new before after text
-printed_gathers old new before text printed after passed as_reported = record {
+printed_gathers old new before text printed after passed as_printed = record {
   prefix = passed.prefix;
   appends = passed.appends;
-  split = sym as_reported ∙ sym (append-nil printed) ∙ passed.split;
+  split = sym as_printed ∙ sym (append-nil printed) ∙ passed.split;
 }
 
 -- if a text was printed after the gathered bytes and a write failed, a prefix of both together was written
 pub printed_prefix :
     (old new : Option (List ℕ)) (before text printed : List ℕ) → AppendsPrefix old new printed → printed ≡ before ++ text
     → AppendsPrefix old new (before ++ text)
-printed_prefix old new before text printed failed as_reported = record {
+printed_prefix old new before text printed failed as_printed = record {
   prefix = failed.prefix;
   rest = failed.rest;
-  split = sym as_reported ∙ failed.split;
+  split = sym as_printed ∙ failed.split;
   appends = failed.appends;
 }
 
@@ -30,21 +30,21 @@ printed_prefix old new before text printed failed as_reported = record {
 pub nothing_prefix : (reported : Option (List ℕ)) (all : List ℕ) → AppendsPrefix reported reported all
 nothing_prefix reported all = record { prefix = []; rest = all; split = refl; appends = Appends-none reported }
 
--- a prefix of a whole was written to the sink; after it come what is gathered and what is left
+-- a prefix of `whole` was written to the sink; the gathered text follows it, and then the text that is left
 pub record SoFar (old new : Option (List ℕ)) (gathered left whole : List ℕ) : Type 0 where
   pub prefix : List ℕ
   pub appends : Appends old new prefix
   pub split : (prefix ++ gathered) ++ left ≡ whole
 
--- nothing is gathered yet
+-- if nothing is gathered and all of the text is left, `SoFar` holds
 pub so_far_none : (reported : Option (List ℕ)) (gathered whole : List ℕ) → gathered ≡ [] → SoFar reported reported gathered whole whole
 so_far_none reported gathered whole none = record { prefix = []; appends = Appends-none reported; split = ap (λ t. t ++ whole) none }
 
--- four texts in a row, grouped in another way
+-- the concatenation of four texts is associative
 regrouped : (prefix before text left : List ℕ) → (prefix ++ (before ++ text)) ++ left ≡ (prefix ++ before) ++ (text ++ left)
 regrouped prefix before text left = simp append_assoc
 
--- one text more is gathered
+-- if one more text is gathered, `SoFar` holds with that text no longer left
 pub so_far_more :
     (old mid new : Option (List ℕ)) (before after text left rest whole : List ℕ) → SoFar old mid before left whole → left ≡ text ++ rest
     → Gathers mid new before after text → SoFar old new after rest whole
@@ -55,7 +55,7 @@ so_far_more old mid new before after text left rest whole so_far first next = re
       ∙ regrouped so_far.prefix before text rest ∙ ap (λ t. (so_far.prefix ++ before) ++ t) (sym first) ∙ so_far.split;
 }
 
--- if the sink failed while one text more was gathered, a prefix of the whole was written
+-- if the sink failed while one more text was gathered, a prefix of the whole was written
 pub so_far_fails :
     (old mid new : Option (List ℕ)) (before text left rest whole : List ℕ) → SoFar old mid before left whole → left ≡ text ++ rest
     → AppendsPrefix mid new (before ++ text) → AppendsPrefix old new whole

@@ -52,7 +52,7 @@ find_passes test (m ∷ ls) l h =
       | inr fails ↦ find_passes test ls l (rw fails at h)
     ]
 
--- a location that is found has the first byte and the length that were sought
+-- a location that is found for n bytes at an address has their place in the group of four and their number
 pub found_row : (addr n : ℕ) (l : Location) → location_at addr n ≡ Some l → ((row_of l).first ≡ addr % 4) × ((row_of l).len ≡ n)
 unfolding location_at
 found_row addr n l h =

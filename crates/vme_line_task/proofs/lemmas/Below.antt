@@ -32,7 +32,7 @@ use Rattle.vme_line_task.specs.declared.task.LineTask.{LineTask}
 use Rattle.vme_line_task.specs.declared.todo.LineTodo.{LineTodo}
 use Rattle.vme_line_task.specs.declared.todo.LineTodo.TheVariants as todos
 use Rattle.vme_line_task.specs.Scripts.{Attempt, Transferring, Awaiting, Sharing, slot_at, level_at, mailbox_at, transfer_job, request_attempt, unless_refused, shared_job, shared_attempt, line_attempt}
-use Rattle.vme_line_task.specs.Tables.{moves_next, await_reply, waits_next, shares_next, attempts_of, lawful_next, next_given}
+use Rattle.vme_line_task.specs.Tables.{transferring_next, await_reply, waits_next, shares_next, attempts_of, lawful_next, next_given}
 use Rattle.vme_line_task.specs.Machine.{line_started, line_advance, line_to_do, line_advanced, IsLineBelow}
 use Rattle.vme_line_task.specs.Events.{call_of_todo, IsCallBelow, IsTodoBelow}
 use Rattle.vme_line_task.proofs.lemmas.Lines.{by_the_given}
@@ -44,17 +44,20 @@ IsAttemptBelow n (Ok (Awaiting job want)) = IsBelow n job
 IsAttemptBelow n (Ok (Sharing s)) = length s.map ≡ n
 IsAttemptBelow n (Err fault) = Unit {0}
 
+-- the boards of a lawful request are boards of the configuration
 transfer_below : (config : Configuration) (board : ℕ) (t : Transfer) → IsBelow (length config.boards) (transfer_job config board t)
 transfer_below config board t =
     subst (λ n. IsBelow n (bus_job (entries_of config.boards) (slot_at config board) (level_at config board) t))
     (length-map config.boards (λ one. one.entry))
     (bus_below (entries_of config.boards) (slot_at config board) (level_at config board) t)
 
+-- if the boards of each transfer are among the first n, the boards of a request are
 request_below : (n : ℕ) (attempt : Transfer → Attempt) (transfer : Result Transfer CycleFault)
     → ((t : Transfer) → IsAttemptBelow n (Ok (attempt t))) → IsAttemptBelow n (request_attempt attempt transfer)
 request_below n attempt (Ok t) each = each t
 request_below n attempt (Err fault) each = tt
 
+-- the boards of a request to a lock or a mailbox are boards of the configuration
 shared_below : (config : Configuration) (board : ℕ) (request : SharedRequest)
     → IsAttemptBelow (length config.boards) (shared_attempt config board request)
 shared_below config board request = by_refusal (shared_refusal request)
@@ -64,6 +67,7 @@ shared_below config board request = by_refusal (shared_refusal request)
     by_refusal None = length-map config.boards (λ one. one.entry)
     by_refusal (Some fault) = tt
 
+-- the boards of the attempt at a line are boards of the configuration
 attempt_below : (config : Configuration) (board : ℕ) (line : Line) → board < length config.boards
     → IsAttemptBelow (length config.boards) (line_attempt config board line)
 attempt_below config board (lines.Bus request) there =
@@ -78,8 +82,8 @@ attempt_below config board (lines.Put box word) there = shared_below config boar
 attempt_below config board (lines.Take box) there = shared_below config board (asked_shared.Take (mailbox_at config box))
 
 -- a call of a transfer or a local command is that of its task
-pub moves_makes : (next : NextStep Outcome) (call : Call) → moves_next next ≡ Invokes call → next ≡ Invokes call
-moves_makes next call made = map_makes answers.Transfer next call made
+pub transferring_makes : (next : NextStep Outcome) (call : Call) → transferring_next next ≡ Invokes call → next ≡ Invokes call
+transferring_makes next call made = map_makes answers.Transfer next call made
 
 -- a call of a read that waits for bytes is that of its task
 pub waits_makes : (want : List ℕ) (next : NextStep Outcome) (call : Call) → waits_next want next ≡ Invokes call → next ≡ Invokes call
@@ -94,11 +98,12 @@ job_below : (n : ℕ) (job : Job) (given : Inputs) (call : Call) → IsBelow n j
 job_below n job given (OnBoard board command) below made = job_calls_below n job given board command below made
 job_below n job given (OnBus cmd) below made = tt
 
+-- each board that the attempts at a line call is among the first n
 lawful_below : (n tries : ℕ) (attempt : Result Attempt CycleFault) (given : Inputs) (call : Call) → IsAttemptBelow n attempt
     → lawful_next tries attempt given ≡ Invokes call → IsCallBelow n call
 lawful_below n tries (Ok (Transferring job)) given call below made =
     let g = (attempts_of (Transferring job) tries given).given in
-    job_below n job g call below (moves_makes (next_of job g) call made)
+    job_below n job g call below (transferring_makes (next_of job g) call made)
 lawful_below n tries (Ok (Awaiting job want)) given call below made =
     let g = (attempts_of (Awaiting job want) tries given).given in
     job_below n job g call below (waits_makes want (next_of job g) call made)
@@ -115,26 +120,26 @@ unfolding next_given
 next_below config board line given call there made =
     lawful_below (length config.boards) config.tries (line_attempt config board line) given call (attempt_below config board line there) made
 
--- a line before its first call calls boards of the configuration alone
+-- a line that starts calls only boards of the configuration
 pub started_below : (config : Configuration) (board : ℕ) (line : Line) → board < length config.boards
     → IsLineBelow (length config.boards) (line_started config board line)
 unfolding IsLineBelow
 started_below config board line there = λ given call made.
     next_below config board line given call there (sym (by_the_given config board line given) ∙ made)
 
--- a line that was given one reply and then others was given all of them
+-- a line that is given one reply and then others is given the list of all of them
 after_all : (task : LineTask) (last : Option EventReply) (given : Inputs)
     → line_advanced (line_advance task last) given ≡ line_advanced task (given ++ last ∷ [])
 after_all task last [] = refl
 after_all task last (next ∷ given) = ap (λ (t : LineTask). line_advance t next) (after_all task last given)
 
--- a line that is given one more reply, or an absent one, calls boards among the first n alone
+-- a line that is given one more reply, or an absent one, still calls only boards among the first n
 pub advance_below : (n : ℕ) (task : LineTask) (last : Option EventReply) → IsLineBelow n task → IsLineBelow n (line_advance task last)
 unfolding IsLineBelow
 advance_below n task last below = λ given call made.
     below (given ++ last ∷ []) call (sym (ap line_to_do (after_all task last given)) ∙ made)
 
--- a line that makes its next call on a machine then calls boards among the first n alone
+-- a line that makes its next call on a machine still calls only boards among the first n
 pub made_below : (n who : ℕ) (before after : Machine) (task new : LineTask) → AdvancesOn line_to_do line_advance who before after task new
     → IsLineBelow n task → IsLineBelow n new
 made_below n who before after task new it below = by (call_in (line_to_do task)) it.step

@@ -15,7 +15,7 @@ use Rattle.vme_arbiter.specs.declared.command.ArbReply.{ArbReply}
 use Rattle.vme_arbiter.specs.declared.command.ArbReply.TheVariants as arb_replies
 use Rattle.vme_arbiter.specs.Requests.{is_level}
 use Rattle.vme_arbiter.specs.Arbitration.{Arbitration}
-use Rattle.vme_arbiter.specs.Masters.{may_give, StandsAsReplied}
+use Rattle.vme_arbiter.specs.Masters.{may_give, MatchesReply}
 use Rattle.vme_core.specs.declared.event.EventReply.{EventReply}
 use Rattle.vme_core.specs.declared.event.EventReply.TheVariants as event_replies
 use Rattle.vme_core.specs.Calls.{Call, OnBoard, OnBus}
@@ -34,8 +34,8 @@ use Rattle.vme_grammar.specs.Grammar.{IsOwnLine}
 use Rattle.vme_script.specs.Configurations.{Configuration}
 use Rattle.vme_line_task.specs.Scripts.{Attempt, Transferring, Awaiting, Sharing, slot_at, level_at, mailbox_at, transfer_job, request_attempt, unless_refused, shared_job, shared_attempt, line_attempt}
 use Rattle.vme_line_task.specs.Tables.{attempt_next, asks_again, Attempts, next_attempt, attempts_of, lawful_next, next_given, line_next, given_of}
-use Rattle.vme_line_task.specs.Tenures.{attempt_arb_reply, lawful_arb_reply, line_arb_reply, IsLocal, IsGood, IsGranted}
-use Rattle.vme_line_task.proofs.lemmas.Below.{moves_makes}
+use Rattle.vme_line_task.specs.Tenures.{attempt_arb_reply, lawful_arb_reply, line_arb_reply, IsLocal, IsUndeniedReply, IsGranted}
+use Rattle.vme_line_task.proofs.lemmas.Below.{transferring_makes}
 use Rattle.vme_line_task.proofs.Ends.{just_begun}
 use Rattle.vme_line_task.proofs.Attempted.{attempt_begins, IsOwnAttempt, attempt_turns, IsTransfer, attempt_holds, attempt_turn, attempt_datum, attempt_ends}
 
@@ -49,6 +49,7 @@ record IsFollowed (made : Attempts) (next : NextStep LineReply) : Type 0 where
   ended : next ≡ Returns answer
   begun : next_attempt made next ≡ record { given = None ∷ []; left = made.left - 1 }
 
+-- either the current attempt stays, or it has ended and another begins
 either : (made : Attempts) (next : NextStep LineReply) → (next_attempt made next ≡ made) ⊎ IsFollowed made next
 either made NotStarted = inl refl
 either made (Invokes call) = inl refl
@@ -63,6 +64,7 @@ abbrev IsOwn : ℕ → ℕ → Result Attempt CycleFault → Type 0
 IsOwn slot level (Ok a) = IsOwnAttempt slot level a
 IsOwn slot level (Err fault) = Unit {0}
 
+-- the transfers of a request to a lock or a mailbox are of its processor's slot and level
 shared_own : (config : Configuration) (board : ℕ) (request : SharedRequest)
     → IsOwn (slot_at config board) (level_at config board) (shared_attempt config board request)
 shared_own config board request = by_refusal (shared_refusal request)
@@ -72,6 +74,7 @@ shared_own config board request = by_refusal (shared_refusal request)
     by_refusal None = (refl, refl)
     by_refusal (Some fault) = tt
 
+-- the transfers of a line are of its processor's slot and level
 line_own : (config : Configuration) (board : ℕ) (line : Line)
     → IsOwn (slot_at config board) (level_at config board) (line_attempt config board line)
 line_own config board (lines.Bus request) = request_own (transfer_of request)
@@ -92,7 +95,7 @@ line_own config board (lines.Unlock am addr) = shared_own config board (asked_sh
 line_own config board (lines.Put box word) = shared_own config board (asked_shared.Put (mailbox_at config box) word)
 line_own config board (lines.Take box) = shared_own config board (asked_shared.Take (mailbox_at config box))
 
--- at the first call of a line, its current attempt was given an absent reply alone
+-- at the first call of a line, its current attempt was given only an absent reply
 first_given : (tries : ℕ) (a : Attempt) → (attempts_of a tries (None ∷ [])).given ≡ None ∷ []
 first_given tries a =
     let now : Attempts = record { given = None ∷ []; left = tries } in
@@ -101,6 +104,7 @@ first_given tries a =
       | inr next ↦ ap (λ (m : Attempts). m.given) next.begun
     ]
 
+-- the attempts at a line begin without a reply of the arbiter
 lawful_begins : (tries : ℕ) (attempt : Result Attempt CycleFault) → lawful_arb_reply tries attempt (None ∷ []) ≡ None
 lawful_begins tries (Err fault) = refl
 lawful_begins tries (Ok a) = ap (attempt_arb_reply a) (first_given tries a) ∙ attempt_begins a
@@ -133,11 +137,11 @@ lawful_turns slot level tries (Ok a) given cmd own lawful made =
 lawful_turns slot level tries (Err fault) given cmd own lawful made = absurd cc
 
 -- the arbiter's last reply to a line's slot allows each command to the arbiter
-pub line_turns : (config : Configuration) (board : ℕ) (line : Line) (replies : List EventReply) (cmd : ArbCmd)
+pub line_command_allowed : (config : Configuration) (board : ℕ) (line : Line) (replies : List EventReply) (cmd : ArbCmd)
     → is_level (level_at config board) ≡ true → line_next config board line replies ≡ Invokes (OnBus cmd)
     → may_give (slot_at config board) (line_arb_reply config board line replies) cmd ≡ true
 unfolding next_given line_arb_reply
-line_turns config board line replies cmd lawful made =
+line_command_allowed config board line replies cmd lawful made =
     lawful_turns (slot_at config board) (level_at config board) config.tries (line_attempt config board line) (given_of replies) cmd
     (line_own config board line) lawful made
 
@@ -146,12 +150,14 @@ lawful_holds : (tries : ℕ) (a : Attempt) (given : Inputs) (b : ℕ) (command :
     → lawful_next tries (Ok a) given ≡ Invokes (OnBoard b command) → lawful_arb_reply tries (Ok a) given ≡ Some arb_replies.Granted
 lawful_holds tries a given b command transfer made = attempt_holds a (attempts_of a tries given).given b command transfer made
 
+-- data of a lawful request go to a board only while the arbiter's last reply is `Granted`
 request_holds : (tries : ℕ) (attempt : Transfer → Attempt) (transfer : Result Transfer CycleFault) (given : Inputs) (b : ℕ) (command : Option Command)
     → ((t : Transfer) → IsTransfer (attempt t)) → lawful_next tries (request_attempt attempt transfer) given ≡ Invokes (OnBoard b command)
     → lawful_arb_reply tries (request_attempt attempt transfer) given ≡ Some arb_replies.Granted
 request_holds tries attempt (Ok t) given b command each made = lawful_holds tries (attempt t) given b command (each t) made
 request_holds tries attempt (Err fault) given b command each made = absurd cc
 
+-- data of a request to a lock or a mailbox go to a board only while the arbiter's last reply is `Granted`
 shared_holds : (config : Configuration) (board : ℕ) (request : SharedRequest) (given : Inputs) (b : ℕ) (command : Option Command)
     → lawful_next config.tries (shared_attempt config board request) given ≡ Invokes (OnBoard b command)
     → lawful_arb_reply config.tries (shared_attempt config board request) given ≡ Some arb_replies.Granted
@@ -177,6 +183,7 @@ own_local board b cmd g command own made =
     by_command (given_cmd.LocalModify offset n f) own = tt
     by_command (given_cmd.Cycle signals at f) own = absurd own
 
+-- a command to a board is one of the local port, or the arbiter's last reply is `Granted`, by all that the line was given
 line_holds_by : (config : Configuration) (board : ℕ) (line : Line) (given : Inputs) (b : ℕ) (command : Option Command) → IsOwnLine line
     → lawful_next config.tries (line_attempt config board line) given ≡ Invokes (OnBoard b command)
     → IsLocal command ⊎ (lawful_arb_reply config.tries (line_attempt config board line) given ≡ Some arb_replies.Granted)
@@ -184,7 +191,7 @@ line_holds_by config board (lines.Bus request) given b command own made =
     inr (request_holds config.tries (λ t. Transferring (transfer_job config board t)) (transfer_of request) given b command (λ t. tt) made)
 line_holds_by config board (lines.Local cmd) given b command own made =
     let g = (attempts_of (Transferring (local_job board cmd)) config.tries given).given in
-    inl (own_local board b cmd g command own (moves_makes (next_of (local_job board cmd) g) (OnBoard b command) made))
+    inl (own_local board b cmd g command own (transferring_makes (next_of (local_job board cmd) g) (OnBoard b command) made))
 line_holds_by config board (lines.Await am addr bytes) given b command own made =
     inr (request_holds config.tries (λ t. Awaiting (transfer_job config board t) bytes.items)
     (transfer_of (requests.Read am addr (length bytes.items))) given b command (λ t. tt) made)
@@ -204,34 +211,35 @@ pub line_holds : (config : Configuration) (board : ℕ) (line : Line) (replies :
 unfolding next_given line_arb_reply
 line_holds config board line replies b command own made = line_holds_by config board line (given_of replies) b command own made
 
--- after a good reply of the arbiter to an attempt, the slot stands as the last reply states
+-- after a reply of the arbiter to an attempt that fits and is no denial, the slot's state is the one that the last reply
+-- states
 lawful_turn : (tries : ℕ) (attempt : Result Attempt CycleFault) (given : Inputs) (cmd : ArbCmd) (reply : ArbReply) (bus : Arbitration)
-    (slot : ℕ) → lawful_next tries attempt given ≡ Invokes (OnBus cmd) → IsGood (OnBus cmd) (event_replies.Bus reply) → StandsAsReplied bus slot (Some reply)
-    → StandsAsReplied bus slot (lawful_arb_reply tries attempt (Some (event_replies.Bus reply) ∷ given))
+    (slot : ℕ) → lawful_next tries attempt given ≡ Invokes (OnBus cmd) → IsUndeniedReply (OnBus cmd) (event_replies.Bus reply) → MatchesReply bus slot (Some reply)
+    → MatchesReply bus slot (lawful_arb_reply tries attempt (Some (event_replies.Bus reply) ∷ given))
 lawful_turn tries (Err fault) given cmd reply bus slot made good stands = absurd cc
 lawful_turn tries (Ok a) given cmd reply bus slot made good stands =
     let was = attempts_of a tries given in
     let now = now_made was (Some (event_replies.Bus reply)) in
     let reported_now = attempt_turn a was.given cmd reply bus slot made good stands in
     elim (either now (attempt_next a now.given)) [
-      | inl same ↦ subst (λ (m : Attempts). StandsAsReplied bus slot (attempt_arb_reply a m.given)) (sym same) reported_now
+      | inl same ↦ subst (λ (m : Attempts). MatchesReply bus slot (attempt_arb_reply a m.given)) (sym same) reported_now
       | inr next ↦
           let ends = attempt_ends a was.given (OnBus cmd) (event_replies.Bus reply) next.answer made good next.ended in
-          subst (λ (m : Attempts). StandsAsReplied bus slot (attempt_arb_reply a m.given)) (sym next.begun)
-          (subst (StandsAsReplied bus slot) (sym (attempt_begins a)) (ends.free bus slot reported_now))
+          subst (λ (m : Attempts). MatchesReply bus slot (attempt_arb_reply a m.given)) (sym next.begun)
+          (subst (MatchesReply bus slot) (sym (attempt_begins a)) (ends.free bus slot reported_now))
     ]
 
--- after a good reply of the arbiter the slot stands as the last reply states
-pub line_turn : (config : Configuration) (board : ℕ) (line : Line) (replies : List EventReply) (cmd : ArbCmd) (reply : ArbReply)
-    (bus : Arbitration) (slot : ℕ) → line_next config board line replies ≡ Invokes (OnBus cmd) → IsGood (OnBus cmd) (event_replies.Bus reply)
-    → StandsAsReplied bus slot (Some reply) → StandsAsReplied bus slot (line_arb_reply config board line (event_replies.Bus reply ∷ replies))
+-- after a reply of the arbiter that fits and is no denial, the slot's state is the one that the last reply states
+pub line_slot_state : (config : Configuration) (board : ℕ) (line : Line) (replies : List EventReply) (cmd : ArbCmd) (reply : ArbReply)
+    (bus : Arbitration) (slot : ℕ) → line_next config board line replies ≡ Invokes (OnBus cmd) → IsUndeniedReply (OnBus cmd) (event_replies.Bus reply)
+    → MatchesReply bus slot (Some reply) → MatchesReply bus slot (line_arb_reply config board line (event_replies.Bus reply ∷ replies))
 unfolding next_given line_arb_reply
-line_turn config board line replies cmd reply bus slot made good stands =
+line_slot_state config board line replies cmd reply bus slot made good stands =
     lawful_turn config.tries (line_attempt config board line) (given_of replies) cmd reply bus slot made good stands
 
--- a good reply of a board to an attempt leaves the arbiter's last reply the same
+-- a reply of a board to an attempt that fits leaves the arbiter's last reply unchanged
 lawful_datum : (tries : ℕ) (attempt : Result Attempt CycleFault) (given : Inputs) (call : Call) (reply : Reply)
-    → lawful_next tries attempt given ≡ Invokes call → IsGood call (event_replies.Board reply)
+    → lawful_next tries attempt given ≡ Invokes call → IsUndeniedReply call (event_replies.Board reply)
     → lawful_arb_reply tries attempt (Some (event_replies.Board reply) ∷ given) ≡ lawful_arb_reply tries attempt given
 lawful_datum tries (Err fault) given call reply made good = absurd cc
 lawful_datum tries (Ok a) given call reply made good =
@@ -244,21 +252,22 @@ lawful_datum tries (Ok a) given call reply made good =
           ap (λ (m : Attempts). attempt_arb_reply a m.given) next.begun ∙ attempt_begins a ∙ sym (ends.quiet reply refl)
     ]
 
--- a good reply of a board leaves the arbiter's last reply the same
+-- a reply of a board that fits leaves the arbiter's last reply unchanged
 pub line_datum : (config : Configuration) (board : ℕ) (line : Line) (replies : List EventReply) (call : Call) (reply : Reply)
-    → line_next config board line replies ≡ Invokes call → IsGood call (event_replies.Board reply)
+    → line_next config board line replies ≡ Invokes call → IsUndeniedReply call (event_replies.Board reply)
     → line_arb_reply config board line (event_replies.Board reply ∷ replies) ≡ line_arb_reply config board line replies
 unfolding next_given line_arb_reply
 line_datum config board line replies call reply made good =
     lawful_datum config.tries (line_attempt config board line) (given_of replies) call reply made good
 
--- a line's reply that is no denial, and leaves the slot as one without a reply of the arbiter
+-- a line's reply that is no denial, after which the slot's state is that of a slot without a reply of the arbiter
 pub record IsWellEnded (answer : LineReply) (last : Option ArbReply) : Type 0 where
   pub granted : IsGranted answer
-  pub free : (bus : Arbitration) (slot : ℕ) → StandsAsReplied bus slot last → StandsAsReplied bus slot None
+  pub free : (bus : Arbitration) (slot : ℕ) → MatchesReply bus slot last → MatchesReply bus slot None
 
+-- attempts that end the line with a reply that fits and is no denial end without a denial
 lawful_ends : (tries : ℕ) (attempt : Result Attempt CycleFault) (given : Inputs) (call : Call) (reply : EventReply) (answer : LineReply)
-    → lawful_next tries attempt given ≡ Invokes call → IsGood call reply → lawful_next tries attempt (Some reply ∷ given) ≡ Returns answer
+    → lawful_next tries attempt given ≡ Invokes call → IsUndeniedReply call reply → lawful_next tries attempt (Some reply ∷ given) ≡ Returns answer
     → IsWellEnded answer (lawful_arb_reply tries attempt (Some reply ∷ given))
 lawful_ends tries (Err fault) given call reply answer made good ends = absurd cc
 lawful_ends tries (Ok a) given call reply answer made good ends =
@@ -273,12 +282,13 @@ lawful_ends tries (Ok a) given call reply answer made good ends =
           let begun = just_begun a answer (sym (ap (λ (m : Attempts). attempt_next a m.given) next.begun) ∙ ends) in
           let reported_none : attempt_arb_reply a (next_attempt now (attempt_next a now.given)).given ≡ None
           = ap (λ (m : Attempts). attempt_arb_reply a m.given) next.begun ∙ attempt_begins a in
-          record { granted = begun.granted; free = λ bus slot stands. subst (StandsAsReplied bus slot) reported_none stands }
+          record { granted = begun.granted; free = λ bus slot stands. subst (MatchesReply bus slot) reported_none stands }
     ]
 
--- a line that ends by a good reply ends without a denial, and its slot stands as one without a reply of the arbiter
+-- a line that ends with a reply that fits and is no denial ends without a denial, and the slot's state is that of a slot
+-- without a reply of the arbiter
 pub line_ends : (config : Configuration) (board : ℕ) (line : Line) (replies : List EventReply) (call : Call) (reply : EventReply)
-    (answer : LineReply) → line_next config board line replies ≡ Invokes call → IsGood call reply
+    (answer : LineReply) → line_next config board line replies ≡ Invokes call → IsUndeniedReply call reply
     → line_next config board line (reply ∷ replies) ≡ Returns answer → IsWellEnded answer (line_arb_reply config board line (reply ∷ replies))
 unfolding next_given line_arb_reply
 line_ends config board line replies call reply answer made good ends =

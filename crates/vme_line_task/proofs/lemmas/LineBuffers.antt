@@ -38,15 +38,16 @@ pub record IsNextBuffer (script : List ScriptLine) (n : ℕ) (buffer : BufferVie
   pub enough : (line : Line) → slice_get (map (λ one. one.line) script) n ≡ Some line → line_read_len line ≤ buffer.capacity
   pub after : rest ≡ drop (n + 1) (buffers_of script)
 
+-- the greater of two numbers is at least the second
 most : (n m : ℕ) → m ≤ max n m
 most n m = omega arith
 
--- a line that is left has a buffer
+-- if a line remains, a buffer remains
 pub buffers_left : (script : List ScriptLine) (n : ℕ) (buffers : List BufferView) → n < length script → buffers ≡ drop n (buffers_of script) → 0 < length buffers
 buffers_left script n buffers within are =
     omega (arith, ap length are, length-drop n (buffers_of script), length-map script (λ (one : ScriptLine). buffer_of one.line))
 
--- the first buffer that is left is that of the next line
+-- the first of the remaining buffers is that of the next line
 pub next_buffer : (script : List ScriptLine) (n : ℕ) (buffers rest : List BufferView) (buffer : BufferView) → n < length script
     → buffers ≡ drop n (buffers_of script) → buffers ≡ buffer ∷ rest → IsNextBuffer script n buffer rest
 next_buffer script n buffers rest buffer within are is =
@@ -69,42 +70,42 @@ next_buffer script n buffers rest buffer within are is =
     line_there (one ∷ script) zero n< = (one.line, refl)
     line_there (one ∷ script) (suc n) n< = line_there script n (omega arith)
 
--- the buffers so far are those that are kept, whatever comes after
+-- the buffers so far are those that `buffers_kept` gives, whatever buffers follow
 unfoldable pub AreKept : List Bool → List BufferView → List BufferView → Type 0
-AreKept take_memory long buffers =
-    (more : List Bool) (rest : List BufferView) → buffers_kept (take_memory ++ more) (long ++ rest) ≡ buffers ++ buffers_kept more rest
+AreKept are_long long buffers =
+    (more : List Bool) (rest : List BufferView) → buffers_kept (are_long ++ more) (long ++ rest) ≡ buffers ++ buffers_kept more rest
 
--- `AreKept` holds of the empty lists
-pub kept_none : (take_memory : List Bool) (long : List BufferView) → take_memory ≡ [] → long ≡ [] → AreKept take_memory long []
+-- `AreKept` holds for empty lists
+pub kept_none : (are_long : List Bool) (long : List BufferView) → are_long ≡ [] → long ≡ [] → AreKept are_long long []
 unfolding AreKept
-kept_none take_memory long none empty = λ more rest. rw (none, empty) refl
+kept_none are_long long none empty = λ more rest. rw (none, empty) refl
 
 -- `AreKept` holds with one more buffer that does not allocate
-pub kept_short : (take_memory : List Bool) (long buffers : List BufferView) (buffer : BufferView) → AreKept take_memory long buffers
-    → buffer ≡ record { items = []; capacity = inline_capacity } → AreKept (take_memory ++ false ∷ []) long (buffers ++ buffer ∷ [])
+pub kept_short : (are_long : List Bool) (long buffers : List BufferView) (buffer : BufferView) → AreKept are_long long buffers
+    → buffer ≡ record { items = []; capacity = inline_capacity } → AreKept (are_long ++ false ∷ []) long (buffers ++ buffer ∷ [])
 unfolding AreKept
-kept_short take_memory long buffers buffer before empty = λ more rest.
-    ap (λ (all : List Bool). buffers_kept all (long ++ rest)) (append_assoc take_memory (false ∷ []) more)
+kept_short are_long long buffers buffer before empty = λ more rest.
+    ap (λ (all : List Bool). buffers_kept all (long ++ rest)) (append_assoc are_long (false ∷ []) more)
     ∙ before (false ∷ more) rest
     ∙ ap (λ (r : BufferView). buffers ++ r ∷ buffers_kept more rest) (sym empty)
     ∙ sym (append_assoc buffers (buffer ∷ []) (buffers_kept more rest))
 
 -- `AreKept` holds with one more buffer that allocates
-pub kept_long : (take_memory : List Bool) (long buffers : List BufferView) (buffer : BufferView) → AreKept take_memory long buffers
-    → AreKept (take_memory ++ true ∷ []) (long ++ buffer ∷ []) (buffers ++ buffer ∷ [])
+pub kept_long : (are_long : List Bool) (long buffers : List BufferView) (buffer : BufferView) → AreKept are_long long buffers
+    → AreKept (are_long ++ true ∷ []) (long ++ buffer ∷ []) (buffers ++ buffer ∷ [])
 unfolding AreKept
-kept_long take_memory long buffers buffer before = λ more rest.
-    ap (λ (all : List Bool). buffers_kept all (long ++ buffer ∷ [] ++ rest)) (append_assoc take_memory (true ∷ []) more)
-    ∙ ap (λ (all : List BufferView). buffers_kept (take_memory ++ true ∷ more) all) (append_assoc long (buffer ∷ []) rest)
+kept_long are_long long buffers buffer before = λ more rest.
+    ap (λ (all : List Bool). buffers_kept all (long ++ buffer ∷ [] ++ rest)) (append_assoc are_long (true ∷ []) more)
+    ∙ ap (λ (all : List BufferView). buffers_kept (are_long ++ true ∷ more) all) (append_assoc long (buffer ∷ []) rest)
     ∙ before (true ∷ more) (buffer ∷ rest)
     ∙ sym (append_assoc buffers (buffer ∷ []) (buffers_kept more rest))
 
--- all buffers are those that are kept
-pub kept_all : (take_memory : List Bool) (long buffers : List BufferView) → AreKept take_memory long buffers → buffers_kept take_memory long ≡ buffers
+-- if `AreKept` holds for all buffers, `buffers_kept` gives them
+pub kept_all : (are_long : List Bool) (long buffers : List BufferView) → AreKept are_long long buffers → buffers_kept are_long long ≡ buffers
 unfolding AreKept
-kept_all take_memory long buffers all =
-    ap (λ (b : List Bool). buffers_kept b long) (sym (append-nil take_memory))
-    ∙ ap (λ (r : List BufferView). buffers_kept (take_memory ++ []) r) (sym (append-nil long))
+kept_all are_long long buffers all =
+    ap (λ (b : List Bool). buffers_kept b long) (sym (append-nil are_long))
+    ∙ ap (λ (r : List BufferView). buffers_kept (are_long ++ []) r) (sym (append-nil long))
     ∙ all [] []
     ∙ append-nil buffers
 

@@ -22,7 +22,7 @@ use Rattle.vme_line_task.specs.declared.attempt.AttemptTask.{AttemptTask}
 use Rattle.vme_line_task.specs.declared.attempt.AttemptTask.TheVariants as tries
 use Rattle.vme_line_task.specs.Scripts.{Attempt, Transferring, Awaiting, Sharing, line_attempt}
 use Rattle.vme_line_task.specs.Tables as table
-use Rattle.vme_line_task.specs.Tables.{moves_next, waits_next, shares_next, attempt_next, next_wants_retry, next_attempt, attempts_of, lawful_next, next_given, line_next, given_of}
+use Rattle.vme_line_task.specs.Tables.{transferring_next, waits_next, shares_next, attempt_next, next_wants_retry, next_attempt, attempts_of, lawful_next, next_given, line_next, given_of}
 use Rattle.vme_line_task.specs.Machine.{attempt_fresh, attempt_anew, attempt_advance, attempt_to_do, attempts_again, attempts_advance, line_fresh, line_started, line_advance, line_to_do, line_advanced, line_given, line_after}
 
 -- the task of an attempt after all that it was given
@@ -31,26 +31,29 @@ attempt_task (Transferring job) given = tries.Transfer (task_given job given)
 attempt_task (Awaiting job want) given = tries.Await (record { task = task_given job given; want = record { items = want } })
 attempt_task (Sharing s) given = tries.Shared (shared_given s given)
 
+-- the task of an attempt that was given nothing is that before its first call
 task_fresh : (a : Attempt) → attempt_fresh a ≡ attempt_task a []
 task_fresh (Transferring job) = refl
 task_fresh (Awaiting job want) = refl
 task_fresh (Sharing s) = refl
 
+-- an attempt that is given one more reply has the task after all these replies
 task_advance : (a : Attempt) (given : Inputs) (last : Option EventReply)
     → attempt_advance (attempt_task a given) last ≡ attempt_task a (last ∷ given)
 task_advance (Transferring job) given last = refl
 task_advance (Awaiting job want) given last = refl
 task_advance (Sharing s) given last = refl
 
+-- an attempt that is put back has the task before its first call
 task_anew : (a : Attempt) (given : Inputs) → attempt_anew (attempt_task a given) ≡ attempt_task a []
 task_anew (Transferring job) given = ap (λ (one : Job). tries.Transfer (fresh_task one)) (given_job job given)
 task_anew (Awaiting job want) given =
     ap (λ (one : Job). tries.Await (record { task = fresh_task one; want = record { items = want } })) (given_job job given)
 task_anew (Sharing s) given = ap (λ (one : SharedJob). tries.Shared (shared_fresh one)) (shared_given_job s given)
 
--- an attempt does what its table says
+-- an attempt does next what its table says
 task_next : (a : Attempt) (given : Inputs) → attempt_to_do (attempt_task a given) ≡ attempt_next a given
-task_next (Transferring job) given = ap moves_next (by_the_table job given)
+task_next (Transferring job) given = ap transferring_next (by_the_table job given)
 task_next (Awaiting job want) given = ap (waits_next want) (by_the_table job given)
 task_next (Sharing s) given = ap shares_next (by_the_steps s given)
 
@@ -84,10 +87,12 @@ attempts_given a tries [] = ap (λ (t : AttemptTask). Running (record { attempt 
 attempts_given a tries (last ∷ before) =
     ap (λ (t : LineTask). line_advance t last) (attempts_given a tries before) ∙ ap Running (same_attempts a tries before last)
 
+-- a line that is refused stays refused, whatever it is given
 refused_given : (tries : ℕ) (fault : CycleFault) (given : Inputs) → line_advanced (line_fresh tries (Err fault)) given ≡ Refused fault
 refused_given tries fault [] = refl
 refused_given tries fault (last ∷ before) = ap (λ (t : LineTask). line_advance t last) (refused_given tries fault before)
 
+-- a line does next what the table says, by its attempt or its refusal
 by_attempt : (tries : ℕ) (attempt : Result Attempt CycleFault) (given : Inputs)
     → line_to_do (line_advanced (line_fresh tries attempt) given) ≡ lawful_next tries attempt given
 by_attempt tries (Ok a) given = ap line_to_do (attempts_given a tries given) ∙ task_next a (attempts_of a tries given).given
@@ -104,7 +109,7 @@ pub by_the_replies : (config : Configuration) (board : ℕ) (line : Line) (repli
     → line_to_do (line_after config board line replies) ≡ line_next config board line replies
 by_the_replies config board line replies = by_the_given config board line (given_of replies)
 
--- a line does next what the table says after one reply more
+-- after one more reply, a line does next what the table says
 pub next_by_the_given : (config : Configuration) (board : ℕ) (line : Line) (before : Inputs) (t : LineTask) (last : Option EventReply)
     → t ≡ line_given config board line before → line_to_do (line_advance t last) ≡ next_given config board line (last ∷ before)
 next_by_the_given config board line before t last same =

@@ -11,7 +11,7 @@ use Rattle.vme_grammar.specs.declared.line.Line.{Line}
 use Rattle.vme_script.specs.Configurations.{Configuration}
 use Rattle.vme_line_task.specs.Scripts.{lines_at}
 use Rattle.vme_line_task.specs.Tables.{line_next}
-use Rattle.vme_line_task.specs.Traces.{Continues, LineTrace, IsTrace, ScriptState, AtWork, IsTracePrefix}
+use Rattle.vme_line_task.specs.Traces.{Continues, LineTrace, IsTrace, ScriptState, IsNextLinePrefix, IsTracePrefix}
 
 -- a line that continues by transitions continues by these and the transition of its next call
 pub goes-snoc : (config : Configuration) (board : ℕ) (line : Line) (before : List EventReply) (moves : List Transition) (replies : List EventReply)
@@ -47,13 +47,13 @@ trace_length config board (one ∷ lines) moves [] script_state = absurd script_
 trace_length config board (one ∷ lines) moves (first ∷ answers) script_state =
     ap suc (trace_length config board lines script_state.1 answers script_state.4)
 
--- the line after those that have ended is the first that is left
+-- the line after those that have ended is the first of the remaining lines
 next_line : (finished left : List Line) → slice_get (finished ++ left) (length finished) ≡ slice_get left 0
 next_line [] left = refl
 next_line (one ∷ finished) left = next_line finished left
 
--- before its first call, the next line has no transitions
-rests : (config : Configuration) (board : ℕ) (left : List Line) → AtWork config board left [] []
+-- without a transition, the next line is before its first call
+rests : (config : Configuration) (board : ℕ) (left : List Line) → IsNextLinePrefix config board left [] []
 rests config board [] = (refl, refl)
 rests config board (line ∷ left) = refl
 
@@ -70,7 +70,7 @@ follows_nothing config board = record {
   work = rests config board (lines_at config board);
 }
 
--- the line of a script state is the first of those that are left
+-- the next line of a script state is the first of the remaining lines
 left_first : (config : Configuration) (board : ℕ) (moves : List Transition) (script_state : ScriptState) (f : IsTracePrefix config board moves script_state) (line : Line)
     (left : List Line) → slice_get (lines_at config board) (length script_state.ended) ≡ Some line → lines_at config board ≡ f.finished ++ left
     → slice_get left 0 ≡ Some line
@@ -86,7 +86,7 @@ pub follows_call : (config : Configuration) (board : ℕ) (moves : List Transiti
     → IsTracePrefix config board (moves ++ m ∷ []) (record { ended = script_state.ended; replies = m.reply ∷ script_state.replies })
 follows_call config board moves script_state line m f there next = by_left f.left f.lines f.work
   where
-    by_left : (left : List Line) → lines_at config board ≡ f.finished ++ left → AtWork config board left f.rest script_state.replies
+    by_left : (left : List Line) → lines_at config board ≡ f.finished ++ left → IsNextLinePrefix config board left f.rest script_state.replies
         → IsTracePrefix config board (moves ++ m ∷ []) (record { ended = script_state.ended; replies = m.reply ∷ script_state.replies })
     by_left [] lines work = let none = left_first config board moves script_state f line [] there lines in absurd cc
     by_left (first ∷ left) lines work =
@@ -111,7 +111,7 @@ pub follows_answer : (config : Configuration) (board : ℕ) (moves : List Transi
     → IsTracePrefix config board moves (record { ended = script_state.ended ++ answer ∷ []; replies = [] })
 follows_answer config board moves script_state line answer f there next = by_left f.left f.lines f.work
   where
-    by_left : (left : List Line) → lines_at config board ≡ f.finished ++ left → AtWork config board left f.rest script_state.replies
+    by_left : (left : List Line) → lines_at config board ≡ f.finished ++ left → IsNextLinePrefix config board left f.rest script_state.replies
         → IsTracePrefix config board moves (record { ended = script_state.ended ++ answer ∷ []; replies = [] })
     by_left [] lines work = let none = left_first config board moves script_state f line [] there lines in absurd cc
     by_left (first ∷ left) lines work =

@@ -8,7 +8,7 @@ use Rattle.vme_am.specs.declared.code.AmFault.{AmFault}
 use Rattle.vme_am.specs.Codes.{CodeRow, read_code}
 use Rattle.vme_decode.specs.declared.entry.Entry.{Entry}
 use Rattle.vme_decode.specs.Select.{selection_at}
-use Rattle.vme_decode.proofs.lemmas.Selection.{place_falls, falls_place, place_remainder}
+use Rattle.vme_decode.proofs.lemmas.Selection.{place_responds, responds_place, place_remainder}
 use Rattle.vme_memory.specs.declared.class.Width8To32.{Width8To32}
 use Rattle.vme_memory.specs.declared.class.Width8To32.TheVariants.{D08, D16, D32}
 use Rattle.vme_memory.specs.Boards.{zeros}
@@ -26,7 +26,7 @@ use Rattle.vme_script.specs.Boards.{entries_of}
 use Rattle.vme_script.specs.Configurations.{Configuration, opening_memory}
 use Rattle.vme_script.specs.Lawful.{IsLawful, IsLawfulMailbox}
 
--- there are as many zero bytes as asked for
+-- the zero bytes of a size are as many as the size
 zeros_len : (size : ℕ) → length (zeros size) ≡ size
 unfolding zeros
 zeros_len size = length-replicate size 0
@@ -84,13 +84,13 @@ module _ (config : Configuration) (lawful : IsLawful config) (mailbox : Mailbox)
     slots = refl;
     each = λ code k row below.
         let first = placed (entries_of config.boards) mailbox fine.place code fine.placed row in
-        let falls = place_falls (entries_of config.boards) code mailbox.addr fine.place.board fine.place.offset first in
+        let falls = place_responds (entries_of config.boards) code mailbox.addr fine.place.board fine.place.offset first in
         let same = own_entry config.boards fine.place.board fine.board falls.entry fine.there falls.there in
         let size : falls.entry.size ≡ fine.board.entry.size = ap (λ (e : Entry). e.size) same in
         let distance = falls.distance in
         let inside = fine.inside in
         let len = len_is in
-        falls_place (entries_of config.boards) code (mailbox.addr + k) fine.place.board (fine.place.offset + k) lawful.map
+        responds_place (entries_of config.boards) code (mailbox.addr + k) fine.place.board (fine.place.offset + k) lawful.map
         (record {
           entry = falls.entry;
           there = falls.there;

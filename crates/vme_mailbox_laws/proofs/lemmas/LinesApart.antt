@@ -24,7 +24,7 @@ use Rattle.vme_script.specs.declared.mailbox_numbers.MailboxNumbers.TheVariants.
 use Rattle.vme_script.specs.declared.board_range.BoardRange.{BoardRange}
 use Rattle.vme_script.specs.Bytes.{request_bytes, local_bytes}
 use Rattle.vme_script.specs.Declarations.{Declaration}
-use Rattle.vme_script.specs.MailboxNumbers.{has_box, may_ask}
+use Rattle.vme_script.specs.MailboxNumbers.{has_box, may_name}
 use Rattle.vme_script.specs.BoardRanges.{share}
 use Rattle.vme_script.specs.Contexts as rules
 use Rattle.vme_script.specs.Contexts.{is_of_mailbox, are_of_mailboxes}
@@ -89,7 +89,7 @@ module _ (config : Configuration) (k who : ℕ) (mailbox : Mailbox) (lawful : Is
       (others_apart config lawful box k other.0 mailbox theirs fine other.1 other.3 here distinct)
 
   -- a line that does not name the mailbox does not touch it
-  one_line : (line : Line) (c : Command) → IsOwnLine line → may_ask (Declared (length config.mailboxes)) line ≡ true
+  one_line : (line : Line) (c : Command) → IsOwnLine line → may_name (Declared (length config.mailboxes)) line ≡ true
       → rules.touches (rules_of entries config.mailboxes who) line ≡ false → names (k + 1) line ≡ false
       → Calls (line_attempt config who line) (OnBoard fine.place.board (Some c)) → touches (on_board mailbox fine.place) c ≡ false
   one_line (lines.Bus request) c own may free other calls =
@@ -109,7 +109,7 @@ module _ (config : Configuration) (k who : ℕ) (mailbox : Mailbox) (lawful : Is
       by_box box (λ m. events.Take m) c (λ m. refl) may other calls
 
   -- a line that does not name the mailbox leaves it alone
-  leaves : (line : Line) → IsOwnLine line → may_ask (Declared (length config.mailboxes)) line ≡ true
+  leaves : (line : Line) → IsOwnLine line → may_name (Declared (length config.mailboxes)) line ≡ true
       → rules.touches (rules_of entries config.mailboxes who) line ≡ false → names (k + 1) line ≡ false
       → LeavesAlone config who line fine.place.board (on_board mailbox fine.place)
   leaves line own may free other = λ replies c made.

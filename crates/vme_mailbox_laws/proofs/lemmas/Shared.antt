@@ -26,7 +26,7 @@ use Rattle.vme_mailbox_laws.proofs.Histories.{Led, led}
 use Rattle.vme_shared.proofs.lemmas.Opening.{opening}
 use Rattle.vme_mailbox_laws.proofs.Scripts.{script}
 
--- a number that is not below the number of callers has no entry
+-- a caller with a number past all callers of a history has no entry in it
 none_own : (n who : ℕ) (h : List (Entry BoardCmd Reply)) → n ≤ who → All (λ e. e.who < n) h → own who h ≡ []
 none_own n who [] past known = refl
 none_own n who (e ∷ h) past known =
@@ -34,7 +34,7 @@ none_own n who (e ∷ h) past known =
     let other : (e.who == who) ≡ false = ne_eqb e.who who (λ same. omega arith) in
     rw other (none_own n who h past (All-tail (λ (e : Entry BoardCmd Reply). e.who < n) e h known))
 
--- without replies, no word is reported
+-- without replies, no word is reported as put
 none_put : (box : ℕ) (ls : List Line) → lines_put box ls [] ≡ []
 none_put box [] = refl
 none_put box (line ∷ ls) = refl
@@ -60,7 +60,7 @@ module _ (config : Configuration) (box board : ℕ) (m : BoardMailbox) (memory :
         | inl below ↦
             subst (λ es. Through m (Some Idle) es (Reported who)) (sym (share.owns who [] below))
             (script config who box board m is (lines_at config who) (slice_index_or runs who []) (slice_index_or answers who []) (Reported who) (is.others who)
-            (share.trace.each who [] [] below) (share.turned who [] below) (refl, refl))
+            (share.trace.each who [] [] below) (share.fitting_replies who [] below) (refl, refl))
         | inr past ↦
             let no_answers : slice_index_or answers who [] ≡ [] = get_or_past answers who [] (let count = share.trace.count in omega arith) in
             rw (none_own (length runs) who h past share.known) (rw no_answers (sym (none_put box (lines_at config who)), sym (none_taken box (lines_at config who))))

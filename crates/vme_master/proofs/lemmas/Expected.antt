@@ -27,7 +27,7 @@ expected_by_tests (requests.BlockWrite am addr n bytes) = refl
 expected_by_tests (requests.BlockFill am addr n count bytes) = refl
 expected_by_tests (requests.Modify am addr n f) = refl
 
--- the command of a datum replies as many bytes as its request expects
+-- the reply to the command of a datum has as many bytes as its request expects
 pub datum_len_wanted : (request : Request) (i at : ℕ) → reply_len (datum_command request i at) ≡ expected_len (request_expected request)
 datum_len_wanted (requests.Read am addr n) i at = refl
 datum_len_wanted (requests.Write am addr bytes) i at = refl
@@ -36,7 +36,7 @@ datum_len_wanted (requests.BlockWrite am addr n bytes) i at = refl
 datum_len_wanted (requests.BlockFill am addr n count bytes) i at = refl
 datum_len_wanted (requests.Modify am addr n f) i at = refl
 
--- a board command replies as many bytes as it expects
+-- the reply to a board command has as many bytes as the command expects
 command_len_wanted : (command : Option Command) → option_and_then reply_len command ≡ expected_len (command_expected command)
 command_len_wanted None = refl
 command_len_wanted (Some (LocalRead at n)) = refl

@@ -39,7 +39,7 @@ own_row j call (replies.Board Done) g = elim (cases_Bool (fits call (replies.Boa
 own_row j call (replies.Board Berr) g = elim (cases_Bool (fits call (replies.Board Berr))) [ inl fit ↦ rw fit tt | inr misfit ↦ rw misfit tt ]
 own_row j call (replies.Bus reply) g = elim (cases_Bool (fits call (replies.Bus reply))) [ inl fit ↦ rw fit tt | inr misfit ↦ rw misfit tt ]
 
--- after one input more, a local command makes no other call than its own
+-- after one more input, a local command makes no other call than its own
 own_step : (j : LocalJob) (next : NextStep Outcome) (last : Option EventReply) (g : Inputs) → MakesOwn j (next_after (Local j) next last g)
 own_step j NotStarted None g = refl
 own_step j NotStarted (Some reply) g = tt
@@ -81,13 +81,13 @@ ask_fits None bus slot level = refl
 ask_fits (Some h) bus slot level = refl
 
 -- the arbiter's reply fits its command
-pub turn_fits : (bus : Arbitration) (cmd : ArbCmd) → fits (OnBus cmd) (replies.Bus (arbiter_step bus cmd).1) ≡ true
-turn_fits bus (arb_commands.Ask slot level) =
+pub arbiter_fits : (bus : Arbitration) (cmd : ArbCmd) → fits (OnBus cmd) (replies.Bus (arbiter_step bus cmd).1) ≡ true
+arbiter_fits bus (arb_commands.Ask slot level) =
     elim (cases_Bool (can_ask bus slot level)) [ inl can ↦ rw can (ask_fits bus.holder bus slot level) | inr cannot ↦ rw cannot refl ]
-turn_fits bus (arb_commands.Look slot) =
+arbiter_fits bus (arb_commands.Look slot) =
     elim (cases_Bool (holds bus slot)) [
       | inl held ↦ rw held refl
       | inr not_held ↦ elim (cases_Bool (pends bus slot)) [ inl one ↦ rw (not_held, one) refl | inr none ↦ rw (not_held, none) refl ]
     ]
-turn_fits bus (arb_commands.Done slot) =
+arbiter_fits bus (arb_commands.Done slot) =
     elim (cases_Bool (holds bus slot)) [ inl held ↦ rw held refl | inr not_held ↦ rw not_held refl ]

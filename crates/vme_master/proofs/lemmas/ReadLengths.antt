@@ -1,4 +1,5 @@
--- The buffer's capacity is enough for what is read, and each datum lies where its address is.
+-- The buffer's capacity is enough for the bytes that are read, and the offset of each datum is equal to its address
+-- modulo four.
 use Rattle.std.proofs.Common.{◌≡◌, ℕ, zero, suc, ◌+◌, ◌*◌, ◌%◌, ◌<◌, ◌≤◌, true, List, ◌++◌, length, Option, Some, None, refl, arith, inl, inr, length-append}
 use Rattle.std.specs.Prelude.{nat_lt, unwrap_or}
 use Rattle.std.proofs.Math.Nat.{mul-le-mul_left}
@@ -16,7 +17,7 @@ use Rattle.vme_master.specs.declared.phase.Phase.TheVariants.{Transferring}
 use Rattle.vme_master.specs.Jobs.{request_expected}
 use Rattle.vme_master.specs.Machine.{job_expected, expected_len, bytes_of, phase_at, datum_phase, phase_broken, phase_replied, IsPlaced, HasRead, IsSound, call_count, most_bytes, job_read_len}
 
--- one datum more of at most r bytes stays within n data
+-- one more datum of at most r bytes stays within n data
 pub one_more : (r i n : ℕ) → i < n → r * i + r ≤ r * n
 one_more r i n less =
     let upto : r * suc i ≤ r * n = mul-le-mul_left r less in
@@ -30,7 +31,7 @@ offset_below offset addr n count i most within less some end =
     let same : n * i ≡ i * n = grind arith in
     omega arith
 
--- a datum's offset leaves the same remainder by four as its address
+-- a datum's offset has the same remainder modulo four as its address
 pub same_place : (offset addr distance : ℕ) → offset % 4 ≡ addr % 4 → (offset + distance) % 4 ≡ (addr + distance) % 4
 same_place offset addr distance same = omega arith
 
@@ -75,7 +76,7 @@ pub replied_within : (job : Job) (reply : Reply) → has_form (expected_len (job
 replied_within (Bus job) reply form short = form_within job.transfer.request reply form
 replied_within (Local job) reply form short = short
 
--- the buffer's capacity is enough for the bytes of one reply more
+-- the buffer's capacity is enough for the bytes of one more reply
 pub buffer_before : (job : Job) (i capacity : ℕ) (read : List ℕ) (reply : Reply) → HasRead job (Transferring i) read
     → has_form (expected_len (job_expected job)) reply ≡ true → length (bytes_of reply) ≤ 8 → job_read_len job ≤ capacity
     → length read + length (bytes_of reply) ≤ capacity

@@ -59,14 +59,14 @@ Facts (Local j) phase read g = LocalFacts j phase read g
 abbrev task : Job → Phase → List ℕ → TaskView
 task job phase read = record { job = job; phase = phase; read = read }
 
--- what was given leads to datum i
+-- after what was given, datum i or the release is next, and the numbers of data and of bytes are the task's
 record LeadsOn (j : BusJob) (i : ℕ) (read : List ℕ) (g : Inputs) : Type 0 where
   next : next_of (Bus j) g ≡ Invokes (datum_or_done j i)
   count : i ≡ data_in g
   bytes : read ≡ bytes_in g
   whole : (p : ℕ × ℕ) → outcome_by j (Some p) g ≡ expected_outcome (request_expected j.transfer.request) (bytes_in g)
 
--- the phase at datum i fits if a board is selected
+-- the fields fit in the phase at datum i if a board is selected
 leads_there : (j : BusJob) (p : ℕ × ℕ) (i : ℕ) (read : List ℕ) (g : Inputs) → j.place ≡ Some p → LeadsOn j i read g
     → BusFacts j (datum_phase j (Some p) i) read g
 leads_there j p i read g placed leads =
@@ -82,7 +82,7 @@ leads_there j p i read g placed leads =
           rw past (here, end)
     ]
 
--- the phase fits if no board is selected
+-- the fields fit in the phase at datum i if no board is selected
 leads_nowhere : (j : BusJob) (i : ℕ) (read : List ℕ) (g : Inputs) → j.place ≡ None → read ≡ [] → LeadsOn j i read g
     → BusFacts j (datum_phase j None i) read g
 leads_nowhere j i read g placed empty leads =
@@ -90,14 +90,14 @@ leads_nowhere j i read g placed empty leads =
     leads.next ∙ elim (cases_Bool (nat_lt i (count_of j.transfer.request))) [ inl less ↦ rw (less, placed) refl | inr past ↦ rw past refl ] in
     (here, rw (placed, empty) refl)
 
--- the phase at datum i fits, with or without a board
+-- the fields fit in the phase at datum i, with or without a board
 leads_on : (j : BusJob) (place : Option (ℕ × ℕ)) (i : ℕ) (read : List ℕ) (g : Inputs) → j.place ≡ place
     → (is_some place ≡ true) ⊎ (read ≡ []) → LeadsOn j i read g → BusFacts j (datum_phase j place i) read g
 leads_on j (Some p) i read g placed why leads = leads_there j p i read g placed leads
 leads_on j None i read g placed (inl some) leads = absurd cc
 leads_on j None i read g placed (inr empty) leads = leads_nowhere j i read g placed empty leads
 
--- the phase after a grant fits
+-- the fields fit in the phase after a grant
 granted : (j : BusJob) (read : List ℕ) (g : Inputs) → Idle read g
     → next_of (Bus j) (Some (replies.Bus arb_replies.Granted) ∷ g) ≡ Invokes (datum_or_done j 0)
     → BusFacts j (datum_phase j j.place 0) read (Some (replies.Bus arb_replies.Granted) ∷ g)
@@ -105,7 +105,7 @@ granted j read g idle next =
     leads_on j j.place 0 read (Some (replies.Bus arb_replies.Granted) ∷ g) refl (inr idle.empty)
     (record { next = next; count = sym idle.none; bytes = idle.empty ∙ sym idle.bytes; whole = λ p. refl })
 
--- the phase after the arbiter's reply to a request or a poll fits
+-- the fields fit in the phase after the arbiter's reply to a request or a poll
 bus_reported : (j : BusJob) (read : List ℕ) (g : Inputs) (reply : ArbReply) → Idle read g
     → ((next_of (Bus j) g ≡ Invokes (ask_call j)) ⊎ (next_of (Bus j) g ≡ Invokes (look_call j)))
     → BusFacts j (phase_answered (Bus j) reply) read (Some (replies.Bus reply) ∷ g)
@@ -130,13 +130,13 @@ datum_unreported : (j : BusJob) (place : Option (ℕ × ℕ)) (i : ℕ) (reply :
 datum_unreported j None i reply some = absurd cc
 datum_unreported j (Some p) i reply some = refl
 
--- the phase after a bus error fits
+-- the outcome at the release after a bus error has the number of data and the bytes before it
 broken : (j : BusJob) (place : Option (ℕ × ℕ)) (i : ℕ) (read : List ℕ) (g : Inputs) → is_some place ≡ true → i ≡ data_in g
     → read ≡ bytes_in g → error_outcome i read ≡ outcome_by j place (Some (replies.Board Berr) ∷ g)
 broken j None i read g some count bytes = absurd cc
 broken j (Some p) i read g some count bytes = rw (count, bytes) refl
 
--- the phase after a board's reply that fits
+-- the fields of a transfer fit after a board's reply of the expected form
 bus_replied : (j : BusJob) (i : ℕ) (read : List ℕ) (g : Inputs) (reply : Reply) → BusFacts j (Transferring i) read g
     → has_form (expected_len (job_expected (Bus j))) reply ≡ true
     → BusFacts j (phase_replied (Bus j) i reply) (read ++ bytes_of reply) (Some (replies.Board reply) ∷ g)
@@ -162,7 +162,7 @@ bus_replied j i read g Berr facts form =
     let fit : fits (datum_call j j.place i) (replies.Board Berr) ≡ true = datum_fits j j.place i Berr facts.1 ∙ form in
     (rw (facts.0, fit) refl, broken j j.place i (read ++ []) g facts.1 facts.2 (append-nil read ∙ facts.3))
 
--- the phase after any reply of a board
+-- the fields of a transfer fit after any reply of a board
 bus_answered : (j : BusJob) (i : ℕ) (read : List ℕ) (g : Inputs) (reply : Reply) → BusFacts j (Transferring i) read g
     → BusFacts j (task_after (task (Bus j) (Transferring i) read) (Transferring i) (Some (replies.Board reply))).phase
     (task_after (task (Bus j) (Transferring i) read) (Transferring i) (Some (replies.Board reply))).read (Some (replies.Board reply) ∷ g)
@@ -174,7 +174,7 @@ bus_answered j i read g reply facts =
           rw misfit (rw (facts.0, unfit) refl)
     ]
 
--- the fields of a transfer fit after one reply more
+-- the fields of a transfer fit after one more reply
 bus_step : (j : BusJob) (phase : Phase) (read : List ℕ) (g : Inputs) (last : Option EventReply) → BusFacts j phase read g
     → BusFacts j (task_after (task (Bus j) phase read) phase last).phase (task_after (task (Bus j) phase read) phase last).read (last ∷ g)
 bus_step j New read g None facts = (rw facts.0 refl, record { none = ap data_in facts.0; empty = facts.1; bytes = ap bytes_in facts.0 })
@@ -223,7 +223,7 @@ local_answered j read g reply facts =
           rw misfit (rw (facts.0, unfit) refl)
     ]
 
--- the fields of a local command fit after one reply more
+-- the fields of a local command fit after one more reply
 local_step : (j : LocalJob) (phase : Phase) (read : List ℕ) (g : Inputs) (last : Option EventReply) → LocalFacts j phase read g
     → LocalFacts j (task_after (task (Local j) phase read) phase last).phase (task_after (task (Local j) phase read) phase last).read (last ∷ g)
 local_step j New read g None facts = (rw facts.0 refl, refl, facts.1)
@@ -252,7 +252,7 @@ pub given_job : (job : Job) (g : Inputs) → (task_given job g).job ≡ job
 given_job job [] = refl
 given_job job (last ∷ g) = job_stays (task_given job g) (task_given job g).phase last ∙ given_job job g
 
--- the fields of a job fit after one reply more
+-- the fields of a job fit after one more reply
 step_facts : (job : Job) (phase : Phase) (read : List ℕ) (g : Inputs) (last : Option EventReply) → Facts job phase read g
     → Facts job (task_after (task job phase read) phase last).phase (task_after (task job phase read) phase last).read (last ∷ g)
 step_facts (Bus j) phase read g last facts = bus_step j phase read g last facts
@@ -272,7 +272,7 @@ given_facts job (last ∷ g) =
     let facts = step_facts job t.phase t.read g last (given_facts job g) in
     rw same at facts
 
--- fields that fit give what the table says
+-- a task whose fields fit does next what the table states
 facts_next : (job : Job) (phase : Phase) (read : List ℕ) (g : Inputs) → Facts job phase read g → job_next job phase read ≡ next_of job g
 facts_next (Bus j) New read g facts = rw facts.0 refl
 facts_next (Bus j) Requesting read g facts = sym facts.0
@@ -287,13 +287,13 @@ facts_next (Local j) (Finished berr) read g facts = sym facts
 facts_next (Local j) Denied read g facts = sym facts
 facts_next (Local j) phase read g facts = absurd facts
 
--- a task does next what the table says
+-- a task does next what the table states
 pub by_the_table : (job : Job) (g : Inputs) → to_do (task_given job g) ≡ next_of job g
 by_the_table job g =
     let t = task_given job g in
     ap (λ (one : Job). job_next one t.phase t.read) (given_job job g) ∙ facts_next job t.phase t.read g (given_facts job g)
 
--- a task does next what the table says after one reply more
+-- a task does next what the table states after one more reply
 pub next_by_the_table : (job : Job) (g : Inputs) (t : TaskView) (last : Option EventReply) → t ≡ task_given job g
     → to_do (task_after t t.phase last) ≡ next_of job (last ∷ g)
 next_by_the_table job g t last same = ap (λ (u : TaskView). to_do (task_after u u.phase last)) same ∙ by_the_table job (last ∷ g)

@@ -24,15 +24,15 @@ use Rattle.vme_master.specs.Tables.{Inputs, data_in, datum_or_done, outcome_by, 
 use Rattle.vme_master.specs.Laws.{last_arb_reply, IsNextDatum}
 
 -- a command to the arbiter is the slot's own and follows from the last reply
-abbrev TurnStands : BusJob → Inputs → ArbCmd → Type 0
-TurnStands j g (arb_commands.Ask slot level) = (slot ≡ j.slot) × (level ≡ j.level) × (last_arb_reply g ≡ None) × (data_in g ≡ 0)
-TurnStands j g (arb_commands.Look slot) = (slot ≡ j.slot) × (last_arb_reply g ≡ Some arb_replies.Waiting) × (data_in g ≡ 0)
-TurnStands j g (arb_commands.Done slot) = (slot ≡ j.slot) × (last_arb_reply g ≡ Some arb_replies.Granted)
+abbrev FollowsReply : BusJob → Inputs → ArbCmd → Type 0
+FollowsReply j g (arb_commands.Ask slot level) = (slot ≡ j.slot) × (level ≡ j.level) × (last_arb_reply g ≡ None) × (data_in g ≡ 0)
+FollowsReply j g (arb_commands.Look slot) = (slot ≡ j.slot) × (last_arb_reply g ≡ Some arb_replies.Waiting) × (data_in g ≡ 0)
+FollowsReply j g (arb_commands.Done slot) = (slot ≡ j.slot) × (last_arb_reply g ≡ Some arb_replies.Granted)
 
 -- what a transfer does next follows from what it was given
 abbrev Stands : BusJob → Inputs → NextStep Outcome → Type 0
 Stands j g NotStarted = g ≡ []
-Stands j g (Invokes (OnBus cmd)) = TurnStands j g cmd
+Stands j g (Invokes (OnBus cmd)) = FollowsReply j g cmd
 Stands j g (Invokes (OnBoard board command)) = IsNextDatum j g board command × (last_arb_reply g ≡ Some arb_replies.Granted)
 Stands j g (Returns outcome) = (outcome ≡ outcomes.Denied) ⊎ (j.place ≡ None → outcome ≡ error_outcome 0 [])
 
@@ -52,11 +52,11 @@ on_stands j g i same held =
       | inr past ↦ rw past (refl, held)
     ]
 
--- the outcome with no board selected is the bus timer's
+-- with no board selected, the outcome is the bus timer's error
 timer : (j : BusJob) (g : Inputs) → j.place ≡ None → outcome_by j j.place g ≡ error_outcome 0 []
 timer j g placed = rw placed refl
 
--- what follows a board's reply
+-- what a transfer does next after a board's reply follows from what it was given
 board_stands : (j : BusJob) (g : Inputs) (board : ℕ) (command : Option Command) (reply : Reply)
     → IsNextDatum j g board command × (last_arb_reply g ≡ Some arb_replies.Granted)
     → Stands j (Some (replies.Board reply) ∷ g) (bus_row j (replies.Board reply) g)
@@ -64,7 +64,7 @@ board_stands j g board command (Bytes datum) stands = on_stands j (Some (replies
 board_stands j g board command Done stands = on_stands j (Some (replies.Board Done) ∷ g) (data_in g + 1) refl stands.1
 board_stands j g board command Berr stands = (refl, stands.1)
 
--- what follows one reply more
+-- what a transfer does next after one more reply follows from what it was given
 step_stands : (j : BusJob) (g : Inputs) (next : NextStep Outcome) (last : Option EventReply) → Stands j g next
     → Stands j (last ∷ g) (next_after (Bus j) next last g)
 step_stands j g NotStarted None stands = (refl, refl, ap last_arb_reply stands, ap data_in stands)
@@ -109,28 +109,28 @@ pub holds_for_data : (j : BusJob) (g : Inputs) (board : ℕ) (command : Option C
 holds_for_data j g board command next = (subst (Stands j g) next (next_stands j g)).1
 
 -- a command that follows from the last reply is one that the reply allows
-may_turn : (j : BusJob) (g : Inputs) (cmd : ArbCmd) → is_level j.level ≡ true → TurnStands j g cmd → may_give j.slot (last_arb_reply g) cmd ≡ true
-may_turn j g (arb_commands.Ask slot level) lawful stands =
+may_follow : (j : BusJob) (g : Inputs) (cmd : ArbCmd) → is_level j.level ≡ true → FollowsReply j g cmd → may_give j.slot (last_arb_reply g) cmd ≡ true
+may_follow j g (arb_commands.Ask slot level) lawful stands =
     rw (stands.2, stands.0, stands.1) (and_from _ _ (eq-eqb j.slot j.slot refl) lawful)
-may_turn j g (arb_commands.Look slot) lawful stands = rw (stands.1, stands.0) (eq-eqb j.slot j.slot refl)
-may_turn j g (arb_commands.Done slot) lawful stands = rw (stands.1, stands.0) (eq-eqb j.slot j.slot refl)
+may_follow j g (arb_commands.Look slot) lawful stands = rw (stands.1, stands.0) (eq-eqb j.slot j.slot refl)
+may_follow j g (arb_commands.Done slot) lawful stands = rw (stands.1, stands.0) (eq-eqb j.slot j.slot refl)
 
 -- each command to the arbiter is one that its last reply allows
-pub turns_go_by : (j : BusJob) (g : Inputs) (cmd : ArbCmd) → is_level j.level ≡ true → next_of (Bus j) g ≡ Invokes (OnBus cmd)
+pub commands_are_allowed : (j : BusJob) (g : Inputs) (cmd : ArbCmd) → is_level j.level ≡ true → next_of (Bus j) g ≡ Invokes (OnBus cmd)
     → may_give j.slot (last_arb_reply g) cmd ≡ true
-turns_go_by j g cmd lawful next = may_turn j g cmd lawful (subst (Stands j g) next (next_stands j g))
+commands_are_allowed j g cmd lawful next = may_follow j g cmd lawful (subst (Stands j g) next (next_stands j g))
 
 -- a command that follows from the last reply is the slot's request, poll or release
-own_turn : (j : BusJob) (g : Inputs) (cmd : ArbCmd) → TurnStands j g cmd
+is_own_command : (j : BusJob) (g : Inputs) (cmd : ArbCmd) → FollowsReply j g cmd
     → (cmd ≡ arb_commands.Ask j.slot j.level) ⊎ ((cmd ≡ arb_commands.Look j.slot) ⊎ (cmd ≡ arb_commands.Done j.slot))
-own_turn j g (arb_commands.Ask slot level) stands = inl (rw (stands.0, stands.1) refl)
-own_turn j g (arb_commands.Look slot) stands = inr (inl (rw stands.0 refl))
-own_turn j g (arb_commands.Done slot) stands = inr (inr (rw stands.0 refl))
+is_own_command j g (arb_commands.Ask slot level) stands = inl (rw (stands.0, stands.1) refl)
+is_own_command j g (arb_commands.Look slot) stands = inr (inl (rw stands.0 refl))
+is_own_command j g (arb_commands.Done slot) stands = inr (inr (rw stands.0 refl))
 
 -- each command to the arbiter is the slot's own
-pub turns_are_own : (j : BusJob) (g : Inputs) (cmd : ArbCmd) → next_of (Bus j) g ≡ Invokes (OnBus cmd)
+pub commands_are_own : (j : BusJob) (g : Inputs) (cmd : ArbCmd) → next_of (Bus j) g ≡ Invokes (OnBus cmd)
     → (cmd ≡ arb_commands.Ask j.slot j.level) ⊎ ((cmd ≡ arb_commands.Look j.slot) ⊎ (cmd ≡ arb_commands.Done j.slot))
-turns_are_own j g cmd next = own_turn j g cmd (subst (Stands j g) next (next_stands j g))
+commands_are_own j g cmd next = is_own_command j g cmd (subst (Stands j g) next (next_stands j g))
 
 -- a transfer with no board ends denied or with the bus timer's error
 pub nowhere_ends : (j : BusJob) (g : Inputs) (outcome : Outcome) → j.place ≡ None → next_of (Bus j) g ≡ Returns outcome
@@ -153,7 +153,7 @@ row_ends j g (replies.Board (Bytes datum)) outcome row good = absurd cc
 row_ends j g (replies.Board Done) outcome row good = absurd cc
 row_ends j g (replies.Board Berr) outcome row good = absurd cc
 
--- a call that ends without a denial was answered by `Freed`
+-- a call after which a transfer ends without a denial had the reply `Freed`
 pub ends_freed : (j : BusJob) (g : Inputs) (call : Call) (reply : EventReply) (outcome : Outcome) → next_of (Bus j) g ≡ Invokes call
     → next_of (Bus j) (Some reply ∷ g) ≡ Returns outcome → outcome ≢ outcomes.Denied → reply ≡ replies.Bus arb_replies.Freed
 ends_freed j g call reply outcome made next good =

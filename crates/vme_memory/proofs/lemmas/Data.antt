@@ -56,7 +56,7 @@ wide_chosen l n h = absurd cc
 narrow_chosen : (l : Location) (n : ℕ) → chosen_len false l ≡ Some n → (row_of l).len ≡ n
 narrow_chosen l n h = cc
 
--- the command of a datum at a location of its length
+-- without a code of eight-byte data, the cycle of a datum at a location of its length is the request's command
 narrow_by :
     (request : Request) (i at : ℕ) (l : Location) → is_counted request ≡ true → i < count_of request → (row_of l).len ≡ datum_len request
     → narrow_command (is_block_request request) (is_none (datum_of request i)) (function_of request) at l (driven_lanes false l (datum_of request i))
@@ -71,7 +71,7 @@ narrow_by (requests.BlockFill am addr n count bytes) i at l counted less long =
     ap (option_map (BlockWrite at)) (driven_again l bytes.items (eqb-true _ _ (and_parts _ _ counted).1 ∙ sym long))
 narrow_by (requests.Modify am addr n f) i at l counted less long = ap (λ len. Some (Modify at len f)) long
 
--- the command of a datum of eight bytes
+-- the cycle of a datum of eight bytes is the request's command
 wide_by :
     (request : Request) (i at : ℕ) (l : Location) → is_counted request ≡ true → (row_of l).len ≡ 4 → datum_len request ≡ 8
     → wide_command (is_none (datum_of request i)) (function_of request) at l (driven_lanes true l (datum_of request i))
@@ -90,7 +90,7 @@ wide_by (requests.Modify am addr n f) i at l counted quad eight =
     let bad : is_modify_len 8 ≡ true = ap is_modify_len (sym eight) ∙ allowed in
     absurd cc
 
--- the command of a datum with any code
+-- the cycle of a datum, with any code, is the request's command
 command_by :
     (t : Transfer) (i at : ℕ) (l : Location) → IsLawful t.am t.request → i < count_of t.request
     → chosen_len t.am.wide l ≡ Some (datum_len t.request)
@@ -106,7 +106,7 @@ command_by t i at l is less chosen =
           rw (narrow, is.kind) (narrow_by t.request i at l is.counted less long)
     ]
 
--- the cycle of a datum, at its own place in the group of four, stands for the request's own command
+-- the cycle of a datum, at its own place in the group of four, is the request's own command
 pub own_command :
     (t : Transfer) (i at : ℕ) → IsLawfulTransfer t → i < count_of t.request → at % 4 ≡ address_of t.request i % 4
     → command_of (signals_of t i) at (function_of t.request) ≡ Some (datum_command t.request i at)
@@ -128,11 +128,11 @@ own_cycle t board i at lawful less place = ap (answer board) (own_command t i at
 read_len : (board : Board) (at len : ℕ) → fits board at len ≡ true → length (bytes_at board at len) ≡ len
 read_len board at len fit = let within = leb-true (at + len) (length board.bytes) fit in grind (arith, common_steps)
 
--- the form of a reply with bytes of the board
+-- a reply with len bytes of the board has the form of a reply of len bytes
 bytes_form : (board : Board) (at len : ℕ) → fits board at len ≡ true → has_form (Some len) (Bytes (record { items = bytes_at board at len })) ≡ true
 bytes_form board at len fit = eq-eqb _ _ (read_len board at len fit)
 
--- the form of the reply to a command, whether or not the board carries it out
+-- the reply to a command has a form if the reply has it where the board carries out the command
 form_by :
     (board : Board) (command : Command) (wanted : Option ℕ) → (can_answer board command ≡ true → has_form wanted (effect_of board command).0 ≡ true)
     → has_form wanted (step board command).0 ≡ true
@@ -153,12 +153,12 @@ reply_form board (BlockRead at len) =
     form_by board (BlockRead at len) (Some len) (λ can. bytes_form board at len (and_parts _ _ (and_parts _ _ (and_parts _ _ can).0).0).0)
 reply_form board (BlockWrite at new) = form_by board (BlockWrite at new) None (λ can. refl)
 
--- a read, single or in a block, has a reply with the requested number of bytes
+-- the reply to a read, single or in a block, has the requested number of bytes or is a bus error
 read_form : (board : Board) (block : Bool) (at len : ℕ) → has_form (Some len) (step board (read_command block at len)).0 ≡ true
 read_form board false at len = reply_form board (Read at len)
 read_form board true at len = reply_form board (BlockRead at len)
 
--- a write, single or in a block, has the reply Done
+-- the reply to a write, single or in a block, is Done or a bus error
 write_form : (board : Board) (block : Bool) (at : ℕ) (new : List ℕ) → has_form None (step board (write_command block at new)).0 ≡ true
 write_form board false at new = reply_form board (Write at new)
 write_form board true at new = reply_form board (BlockWrite at new)

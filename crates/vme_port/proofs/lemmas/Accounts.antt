@@ -37,17 +37,17 @@ module _ {C R : Type 0} where
       let differs : e.who ≢ other = λ e'. apart (sym e' ∙ same) in
       rw (ne_eqb e.who other differs) rest
 
-  -- the part of a history behind what an account has seen contains none of its own entries
+  -- the part of a history after what an account has seen contains none of its own entries
   pub apart : (h : List (Entry C R)) (a : Account C R) (f : IsConsistent h a) → own a.who f.begins.0 ≡ []
   apart h a f = append_same a.mine (own a.who f.begins.0)
-      (ap (λ l. l ++ own a.who f.begins.0) (sym f.sound) ∙ sym (own-append a.who a.seen f.begins.0) ∙ ap (own a.who) (sym f.begins.1) ∙ f.whole)
+      (ap (λ l. l ++ own a.who f.begins.0) (sym f.sound) ∙ sym (own-append a.who a.seen f.begins.0) ∙ ap (own a.who) (sym f.begins.1) ∙ f.complete)
 
   -- an account agrees with a history that entries of others are appended to
   pub fits_others : (who : ℕ) (h es : List (Entry C R)) (a : Account C R) → All (λ e. e.who ≡ who) es → a.who ≢ who → IsConsistent h a → IsConsistent (h ++ es) a
   fits_others who h es a all other f = record {
     begins = (f.begins.0 ++ es, ap (λ l. l ++ es) f.begins.1 ∙ append_assoc a.seen f.begins.0 es);
     sound = f.sound;
-    whole = own-append a.who h es ∙ ap (λ l. own a.who h ++ l) (own_none who a.who es all other) ∙ append-nil (own a.who h) ∙ f.whole;
+    complete = own-append a.who h es ∙ ap (λ l. own a.who h ++ l) (own_none who a.who es all other) ∙ append-nil (own a.who h) ∙ f.complete;
   }
 
   -- the count of the accounts of `who`, with one more account

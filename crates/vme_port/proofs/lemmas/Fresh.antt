@@ -52,7 +52,7 @@ module _ (C R : Type 0) where
   -- each fresh account agrees with the empty history
   pub fresh_fits : (i n : ℕ) → All (IsConsistent []) (fresh_accounts {C = C} {R = R} i n)
   fresh_fits i zero = All-nil (IsConsistent {C = C} {R = R} [])
-  fresh_fits i (suc n) = All-cons (IsConsistent []) (account i [] []) (fresh_accounts (suc i) n) (record { begins = ([], refl); sound = refl; whole = refl }) (fresh_fits (suc i) n)
+  fresh_fits i (suc n) = All-cons (IsConsistent []) (account i [] []) (fresh_accounts (suc i) n) (record { begins = ([], refl); sound = refl; complete = refl }) (fresh_fits (suc i) n)
 
 module _ {C R : Type 0} where
   -- a split keeps the total number of accounts

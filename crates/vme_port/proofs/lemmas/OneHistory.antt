@@ -8,13 +8,13 @@ use Rattle.vme_object.specs.Each.{Each}
 use Rattle.vme_object.proofs.lemmas.Histories.{own-append, reply_at}
 use Rattle.vme_port.specs.Passes.{PassView, IsUnused}
 use Rattle.vme_port.specs.Calls.{Adds, Makes}
-use Rattle.vme_port.specs.Settlements.{Settles, StandsIn}
+use Rattle.vme_port.specs.Settlements.{Settles, HasPlaceIn}
 use Rattle.vme_port.proofs.lemmas.Accounts.{own_all}
 use Rattle.vme_port.proofs.lemmas.SharedHistory as Shared
 use Rattle.atomic_table.specs.Seated.{TableId}
 
 module _ {C R : Type 0} where
-  -- a pass makes no entries over no call
+  -- without a call, a pass makes no entry
   pub makes_none : (p : PassView C R) → Makes [] p p
   makes_none p = record {
     port = refl;
@@ -26,7 +26,7 @@ module _ {C R : Type 0} where
     made = omega arith;
   }
 
-  -- a pass makes, over two sequences of calls, the entries of both, in order
+  -- over two sequences of calls, a pass makes the entries of the first and then those of the second
   pub makes_more : (a b : List (Entry C R)) (p q r : PassView C R) → Makes a p q → Makes b q r → Makes (a ++ b) p r
   makes_more a b p q r first then = record {
     port = then.port ∙ first.port;
@@ -40,7 +40,7 @@ module _ {C R : Type 0} where
     made = omega (arith, first.made, then.made, length-append a b);
   }
 
-  -- a pass makes the entries that it adds behind entries of others
+  -- a pass makes the entries that it adds after entries of others
   pub makes_added : (es : List (Entry C R)) (p q : PassView C R) → q.port ≡ p.port → q.who ≡ p.who → (others : List (Entry C R)) → own p.who others ≡ []
       → q.seen ≡ p.seen ++ others ++ es → All (λ e. e.who ≡ p.who) es → q.mine ≡ p.mine ++ es → q.made ≡ p.made + length es → Makes es p q
   makes_added es p q port who others apart seen whose mine made = record {
@@ -54,48 +54,48 @@ module _ {C R : Type 0} where
   }
 
 module _ {S C R : Type 0} (step : S → C → S × R) (start : S) where
-  -- a pass makes, over one call, the entries that the call adds
+  -- over one call, a pass makes the entries that the call adds
   pub makes_one : (es : List (Entry C R)) (p q : PassView C R) → Adds step start es p q → Makes es p q
   makes_one es p q added = makes_added es p q added.port added.who added.others added.apart added.seen added.whose added.mine added.made
 
-  module _ (k : ℕ) (passes : List (PassView C R)) (object : S) (n : ℕ) (reported : Settles step start k passes object n) where
+  module _ (k : ℕ) (passes : List (PassView C R)) (object : S) (n : ℕ) (outcome : Settles step start k passes object n) where
     -- the passes of a settled port share its history
-    shared : Shared.IsShared k reported.history passes
-    shared = record { known = reported.known; each_who = reported.each_who; seen = reported.seen; sound = reported.sound; mine = reported.mine }
+    shared : Shared.IsShared k outcome.history passes
+    shared = record { known = outcome.known; each_who = outcome.each_who; seen = outcome.seen; sound = outcome.sound; mine = outcome.mine }
 
     -- each entry that a pass made since has its place in the history
-    pub placed : (es : List (Entry C R)) (p q : PassView C R) → Contains passes q → Makes es p q → Each (λ i e. StandsIn step start reported.history p.seen (p.mine ++ take i es) e) es
+    pub placed : (es : List (Entry C R)) (p q : PassView C R) → Contains passes q → Makes es p q → Each (λ i e. HasPlaceIn step start outcome.history p.seen (p.mine ++ take i es) e) es
     placed es p q there made i d less =
-        let at = Shared.own_places k reported.history passes shared es p q there made i d less in record {
+        let at = Shared.own_places k outcome.history passes shared es p q there made i d less in record {
           before = at.before;
           after = at.after;
           place = at.place;
           behind = at.behind;
           only = at.only;
-          reply = reply_at step start reported.history at.before at.after _ reported.legal at.place;
+          reply = reply_at step start outcome.history at.before at.after _ outcome.legal at.place;
         }
 
     -- an unused pass makes exactly its caller's part of the history
-    pub part_of_unused : (es : List (Entry C R)) (p q : PassView C R) → Contains passes q → Makes es p q → (port : TableId) (who : ℕ) → IsUnused port who p → own who reported.history ≡ es
-    part_of_unused = Shared.part_of_unused k reported.history passes shared
+    pub part_of_unused : (es : List (Entry C R)) (p q : PassView C R) → Contains passes q → Makes es p q → (port : TableId) (who : ℕ) → IsUnused port who p → own who outcome.history ≡ es
+    part_of_unused = Shared.part_of_unused k outcome.history passes shared
 
     -- the history has as many entries as the passes made together
-    pub entries_counted : length reported.history ≡ sum_by (λ p. length p.mine) passes
-    entries_counted = Shared.entries_counted k reported.history passes shared
+    pub entries_counted : length outcome.history ≡ sum_by (λ p. length p.mine) passes
+    entries_counted = Shared.entries_counted k outcome.history passes shared
 
     -- each entry of the history was made by some pass
-    pub maker_of : (e : Entry C R) → Contains reported.history e → (p : PassView C R) × Contains passes p × Contains p.mine e
-    maker_of = Shared.maker_of k reported.history passes shared
+    pub maker_of : (e : Entry C R) → Contains outcome.history e → (p : PassView C R) × Contains passes p × Contains p.mine e
+    maker_of = Shared.maker_of k outcome.history passes shared
 
     -- a property of all entries that passes made holds for the whole history
-    pub all_made : (P : Entry C R → Type 0) → All (λ p. All P p.mine) passes → All P reported.history
-    all_made = Shared.all_made k reported.history passes shared
+    pub all_made : (P : Entry C R → Type 0) → All (λ p. All P p.mine) passes → All P outcome.history
+    all_made = Shared.all_made k outcome.history passes shared
 
   -- the place of an entry of a settled port, without its reply
-  abbrev own_place : (h seen mine : List (Entry C R)) (e : Entry C R) → StandsIn step start h seen mine e → Shared.IsOwnPlace h seen mine e
+  abbrev own_place : (h seen mine : List (Entry C R)) (e : Entry C R) → HasPlaceIn step start h seen mine e → Shared.IsOwnPlace h seen mine e
   own_place h seen mine e at = record { before = at.before; after = at.after; place = at.place; behind = at.behind; only = at.only }
 
-  -- two entries of one caller that follow as many of its own entries have one place
-  pub one_place : (h seen seen' mine : List (Entry C R)) (e f : Entry C R) → e.who ≡ f.who → (a : StandsIn step start h seen mine e) → (b : StandsIn step start h seen' mine f)
+  -- two entries of one caller that follow the same own entries have the same place
+  pub one_place : (h seen seen' mine : List (Entry C R)) (e f : Entry C R) → e.who ≡ f.who → (a : HasPlaceIn step start h seen mine e) → (b : HasPlaceIn step start h seen' mine f)
       → a.before ≡ b.before
   one_place h seen seen' mine e f same a b = Shared.one_place h seen seen' mine e f same (own_place h seen mine e a) (own_place h seen' mine f b)

@@ -24,7 +24,7 @@ module _ {C R : Type 0} where
   own_later : (who : ℕ) (e : Entry C R) (h : List (Entry C R)) → e.who ≢ who → own who (e ∷ h) ≡ own who h
   own_later who e h other = ap (λ (b : Bool). cond b (e ∷ own who h) (own who h)) (ne_eqb e.who who other)
 
-  -- an entry keeps its place behind one more entry of `who`
+  -- an entry keeps its place after one more entry of `who`
   place_behind_own : (who : ℕ) (g e : Entry C R) (h mine : List (Entry C R)) → g.who ≡ who → IsPlaceOf who h mine e → IsPlaceOf who (g ∷ h) (g ∷ mine) e
   place_behind_own who g e h mine same p = record {
     before = g ∷ p.before;
@@ -34,7 +34,7 @@ module _ {C R : Type 0} where
     only = own_first who g p.before same ∙ ap (λ l. g ∷ l) p.only;
   }
 
-  -- an entry keeps its place behind one more entry of another caller
+  -- an entry keeps its place after one more entry of another caller
   place_behind_other : (who : ℕ) (g e : Entry C R) (h mine : List (Entry C R)) → g.who ≢ who → IsPlaceOf who h mine e → IsPlaceOf who (g ∷ h) mine e
   place_behind_other who g e h mine other p = record {
     before = g ∷ p.before;
@@ -69,7 +69,7 @@ module _ {C R : Type 0} where
         subst (λ l. IsPlaceOf who (g ∷ h) (take (suc i) l) (slice_index_or l (suc i) d)) (sym its) (place_behind_other who g _ h _ other p)
   ]
 
-  -- two entries of `who` that follow as many of its own entries stand at one place
+  -- two entries of `who` that follow the same own entries of `who` have the same place
   pub same_place : (who : ℕ) (a b : List (Entry C R)) (e f : Entry C R) (x y : List (Entry C R)) → a ++ e ∷ x ≡ b ++ f ∷ y → e.who ≡ who
       → f.who ≡ who → own who a ≡ own who b → a ≡ b
   same_place who [] [] e f x y is mine theirs same = refl

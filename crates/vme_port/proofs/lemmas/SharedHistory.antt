@@ -21,7 +21,7 @@ pub record IsShared {C R : Type 0} (k : ℕ) (h : List (Entry C R)) (passes : Li
   pub sound : All (λ p. own p.who p.seen ≡ p.mine) passes
   pub mine : All (λ p. own p.who h ≡ p.mine) passes
 
--- an entry has its place in a history: behind all that its caller had seen, after exactly the entries `mine` of its caller
+-- an entry has its place in a history: after all that its caller had seen, and after exactly the entries `mine` of its caller
 pub record IsOwnPlace {C R : Type 0} (h seen mine : List (Entry C R)) (e : Entry C R) : Type 0 where
   pub before : List (Entry C R)
   pub after : List (Entry C R)
@@ -32,6 +32,7 @@ pub record IsOwnPlace {C R : Type 0} (h seen mine : List (Entry C R)) (e : Entry
 module _ {C R : Type 0} where
   module _ (k : ℕ) (h : List (Entry C R)) (passes : List (PassView C R)) (shared : IsShared k h passes) where
     module _ (es : List (Entry C R)) (p q : PassView C R) (there : Contains passes q) (made : Makes es p q) where
+      -- what the pass has seen is a prefix of the history
       begins : IsPrefix q.seen h
       begins = All-contains (λ (p : PassView C R). IsPrefix p.seen h) passes q shared.seen there
 
@@ -91,7 +92,7 @@ module _ {C R : Type 0} where
         let maker = maker_of e (Contains-get_or h i d less) in
         All-contains P maker.0.mine e (All-contains (λ (p : PassView C R). All P p.mine) passes maker.0 each maker.1) maker.2
 
-  -- two entries of one caller that follow as many of its own entries have one place
+  -- two entries of one caller that follow the same own entries have the same place
   pub one_place : (h seen seen' mine : List (Entry C R)) (e f : Entry C R) → e.who ≡ f.who → (a : IsOwnPlace h seen mine e) → (b : IsOwnPlace h seen' mine f)
       → a.before ≡ b.before
   one_place h seen seen' mine e f same a b =

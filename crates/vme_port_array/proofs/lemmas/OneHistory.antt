@@ -14,7 +14,7 @@ use Rattle.vme_port.proofs.lemmas.SharedHistory as Shared
 use Rattle.vme_port_array.specs.declared.indexed.Indexed.{Indexed}
 use Rattle.vme_port_array.specs.Parts.{part, AreLegal}
 use Rattle.vme_port_array.specs.Calls.{Adds}
-use Rattle.vme_port_array.specs.Settlements.{Settles, StandsIn}
+use Rattle.vme_port_array.specs.Settlements.{Settles, HasPlaceIn}
 use Rattle.vme_port_array.proofs.lemmas.Parts.{part-append, part_first}
 
 module _ {S C R : Type 0} (step : S → C → S × R) (starts : List S) where
@@ -33,27 +33,27 @@ module _ {S C R : Type 0} (step : S → C → S × R) (starts : List S) where
       ap (part i) place ∙ part-append i before (e ∷ after) ∙ ap (λ l. part i before ++ l) (part_first e after) in
       reply_at step start (part i h) (part i before) (part i after) (entry e.who e.cmd.cmd e.reply) (legal i start there) split
 
-  module _ (k : ℕ) (passes : List (PassView (Indexed C) R)) (homes : List (Home S)) (reported : Settles step starts k passes homes) where
+  module _ (k : ℕ) (passes : List (PassView (Indexed C) R)) (homes : List (Home S)) (outcome : Settles step starts k passes homes) where
     -- the passes of a settled array share its history
-    pub shared : Shared.IsShared k reported.history passes
-    shared = record { known = reported.known; each_who = reported.each_who; seen = reported.seen; sound = reported.sound; mine = reported.mine }
+    pub shared : Shared.IsShared k outcome.history passes
+    shared = record { known = outcome.known; each_who = outcome.each_who; seen = outcome.seen; sound = outcome.sound; mine = outcome.mine }
 
     -- each entry that a pass made since has its place in the history
     pub placed : (es : List (Entry (Indexed C) R)) (p q : PassView (Indexed C) R) → Contains passes q → Makes es p q
-        → Each (λ i e. StandsIn step starts reported.history p.seen (p.mine ++ take i es) e) es
+        → Each (λ i e. HasPlaceIn step starts outcome.history p.seen (p.mine ++ take i es) e) es
     placed es p q there made i d less =
-        let own = Shared.own_places k reported.history passes shared es p q there made i d less in record {
+        let own = Shared.own_places k outcome.history passes shared es p q there made i d less in record {
           before = own.before;
           after = own.after;
           place = own.place;
           behind = own.behind;
           only = own.only;
-          reply = reply_in reported.history own.before own.after _ reported.legal own.place;
+          reply = reply_in outcome.history own.before own.after _ outcome.legal own.place;
         }
 
   -- two entries of one caller that follow as many of its own entries have one place
   pub one_place : (h seen seen' mine : List (Entry (Indexed C) R)) (e f : Entry (Indexed C) R) → e.who ≡ f.who
-      → (a : StandsIn step starts h seen mine e) → (b : StandsIn step starts h seen' mine f) → a.before ≡ b.before
+      → (a : HasPlaceIn step starts h seen mine e) → (b : HasPlaceIn step starts h seen' mine f) → a.before ≡ b.before
   one_place h seen seen' mine e f same a b =
       Shared.one_place h seen seen' mine e f same
       (record { before = a.before; after = a.after; place = a.place; behind = a.behind; only = a.only })

@@ -1,4 +1,4 @@
--- What holds of every configuration, by the refusals that do not hold of its file.
+-- What holds for every configuration, by the refusals that do not apply to its file.
 use Rattle.std.proofs.Common.{◌≡◌, ℕ, zero, suc, ◌<◌, ◌≤◌, Bool, true, false, List, [], ◌∷◌, length, Some, Result, Ok, Err, refl, ap, subst, sym, ◌∙◌, arith}
 use Rattle.std.specs.Prelude.{nat_lt, nat_le, not, ◌&&◌, ◌==◌, is_ok, slice_get}
 use Rattle.std.specs.List.{list_all}
@@ -22,26 +22,28 @@ use Rattle.vme_script.specs.Scripts.{scripts_of}
 use Rattle.vme_script.specs.Configurations.{Configuration, configuration_of}
 use Rattle.vme_script.specs.Lawful.{IsLawfulBoard, IsLawful}
 use Rattle.vme_script.proofs.Maps.{refusal_of_lawful, size_of_range}
-use Rattle.vme_script.proofs.Sites.{mailboxes_known}
+use Rattle.vme_script.proofs.DeclaredMailboxes.{mailboxes_known}
 use Rattle.vme_script.proofs.Scripts.{scripts_known, each_line}
 use Rattle.vme_script.proofs.Facts.{ascend, is_lawful, boards_known, ranges_known, true_from_not}
 
 -- ---- the parts of a configuration
 
+-- if the last two parts make a configuration, neither is refused and the configuration is made of them
 ended :
     {A B : Type 0} (first : Result A ConfigFault) (second : A → Result B ConfigFault) (make : A → B → Configuration) (c : Configuration)
     → (first >>= (λ x. second x >>= (λ y. Ok (make x y)))) ≡ Ok c → (x : A) × (y : B) × (first ≡ Ok x) × (second x ≡ Ok y) × (c ≡ make x y)
 ended (Err fault) second make c e = cc
 ended (Ok x) second make c e =
-    let last = reported (second x) (make x) c e in
+    let last = result_is (second x) (make x) c e in
     (x, last.0, refl, last.1, last.2)
   where
-    reported :
+    result_is :
         {B : Type 0} (answer : Result B ConfigFault) (make : B → Configuration) (c : Configuration) → (answer >>= (λ y. Ok (make y))) ≡ Ok c
         → (y : B) × (answer ≡ Ok y) × (c ≡ make y)
-    reported (Err fault) make c e = cc
-    reported (Ok y) make c e = (y, refl, cc)
+    result_is (Err fault) make c e = cc
+    result_is (Ok y) make c e = (y, refl, cc)
 
+-- if two checks and the rest give a result, neither check is refused and the rest gives the result
 passed :
     {A B C : Type 0} (first : Result A ConfigFault) (second : Result B ConfigFault) (rest : B → Result C ConfigFault) (c : C)
     → (first >>= (λ _. second >>= rest)) ≡ Ok c → (x : A) × (y : B) × (first ≡ Ok x) × (second ≡ Ok y) × (rest y ≡ Ok c)
@@ -49,12 +51,14 @@ passed (Err fault) second rest c e = cc
 passed (Ok x) (Err fault) rest c e = cc
 passed (Ok x) (Ok y) rest c e = (x, y, refl, refl, e)
 
+-- if a part and the rest give a result, the part is not refused and the rest gives the result
 opened :
     {A C : Type 0} (first : Result A ConfigFault) (rest : A → Result C ConfigFault) (c : C) → (first >>= rest) ≡ Ok c
     → (x : A) × (first ≡ Ok x) × (rest x ≡ Ok c)
 opened (Err fault) rest c e = cc
 opened (Ok x) rest c e = (x, refl, e)
 
+-- if the counts, the boards and the rest give a result, none is refused and the rest gives the result
 counted :
     {A B : Type 0} (none many : Bool) (boards : Result A ConfigFault) (rest : A → Result B ConfigFault) (c : B)
     → (refuse none NoBoard >>= (λ _. refuse many TooMany >>= (λ _. boards >>= rest))) ≡ Ok c
@@ -130,6 +134,7 @@ made file c e =
 
 -- ---- boards
 
+-- a board that passes `is_lawful`, in a slot above another, is lawful
 lawful_one : (before : ℕ) (board : BoardConfig) → is_lawful board ≡ true → before < board.slot → IsLawfulBoard board
 lawful_one before board lawful above =
     let outer = and_parts (nat_le board.slot 21 && not (nat_lt 3 board.level)) (is_ok (range_refused board.entry)) lawful in
@@ -195,6 +200,7 @@ clear_map entries map e = clear (some_overlap entries) e
 
 -- ---- schedules
 
+-- if the checks of a schedule give a schedule, neither refuses and the schedule is the pairs
 scheduled :
     (wrong unlawful : Bool) (pairs schedule : List (ℕ × ℕ)) → (refuse wrong BadSchedule >>= (λ _. refuse unlawful BadSchedule >>= (λ _. Ok pairs))) ≡ Ok schedule
     → (wrong ≡ false) × (unlawful ≡ false) × (pairs ≡ schedule)
@@ -210,6 +216,7 @@ record Timed (boards : List BoardConfig) (file : FileValues) (schedule : List (�
   slots : has_boards boards schedule ≡ true
   turns : turns_of schedule ≤ 1000000
 
+-- the facts hold for the schedule of a configuration
 timed : (boards : List BoardConfig) (file : FileValues) (schedule : List (ℕ × ℕ)) → schedule_of boards file ≡ Ok schedule → Timed boards file schedule
 unfolding schedule_of lawful_schedule
 timed boards file schedule e =

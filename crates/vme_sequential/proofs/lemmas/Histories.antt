@@ -16,7 +16,7 @@ use Rattle.vme_line_task.specs.Scripts.{lines_at}
 use Rattle.vme_line_task.specs.Traces.{IsTrace}
 use Rattle.vme_bus_objects.specs.Runs.{transitions_of}
 use Rattle.vme_threads.specs.declared.report.Report.{Report}
-use Rattle.vme_threads.specs.Rans.{answers_in}
+use Rattle.vme_threads.specs.Rans.{replies_of_lines}
 use Rattle.vme_threads.specs.Reports.{HasHistory, IsReportOf}
 use Rattle.vme_threads.specs.OneOrder.{LeadsTo, IsReportOfOneOrder}
 use Rattle.vme_threads.proofs.lemmas.Parts.{part_of, board_whose, bus_whose}
@@ -82,7 +82,7 @@ is_report config report is =
       whose = each_value (λ who run. All (λ (m : Transition). m.who ≡ who) run) (λ who. transitions_of who is.run) k (λ who less. transitions_whose who is.run);
       fitting = all_values (λ run. All (λ (m : Transition). IsReplyTo m.event m.reply) run) (λ who. transitions_of who is.run) 0 k (λ who. transitions_all (λ (m : Transition). IsReplyTo m.event m.reply) who is.run is.fitting);
       trace =
-          value_pairs (λ who run (lines : Vec (ℕ × LineReply)). IsTrace config who (lines_at config who) run (answers_in lines.items))
+          value_pairs (λ who run (lines : Vec (ℕ × LineReply)). IsTrace config who (lines_at config who) run (replies_of_lines lines.items))
           (λ who. transitions_of who is.run) report.lines.items k is.trace.count
           (λ who d less. is.trace.each who (any_board who less) d less);
       numbers = is.numbers;

@@ -19,7 +19,7 @@ use Rattle.vme_core.specs.Runs.{Machine, Transition, IsRun, IsReplyTo, move, tar
 use Rattle.vme_core.specs.Calls.{call_of, counted_step, command_step, machine_step}
 use Rattle.vme_core.specs.Machines.{IsThere}
 use Rattle.vme_core.proofs.lemmas.Calls.{did_call}
-use Rattle.vme_core.proofs.lemmas.Dones.{did_nil, did_trans}
+use Rattle.vme_core.proofs.lemmas.RunSteps.{did_nil, did_trans}
 use Rattle.vme_line_task.specs.Events.{IsEventBelow}
 use Rattle.vme_sequential.specs.Orders.{Performs, performed}
 use Rattle.vme_sequential.proofs.lemmas.Lists.{set_here, set_elsewhere}

@@ -23,7 +23,7 @@ use Rattle.vme_stepper.specs.Reports.{numbered_replies, text_of_board, texts_of_
 use Rattle.vme_bus_objects.specs.Runs.{transitions_of}
 use Rattle.vme_threads.specs.declared.report.BoardReport.{BoardReport}
 use Rattle.vme_threads.specs.declared.report.Report.{Report}
-use Rattle.vme_threads.specs.Rans.{numbers_in, answers_in}
+use Rattle.vme_threads.specs.Rans.{numbers_in, replies_of_lines}
 use Rattle.vme_threads.specs.ReportTexts.{texts_of_ends, texts_of_report}
 use Rattle.vme_sequential.specs.Orders.{performed, IsOneOrder, IsReportOfState, ended_state}
 use Rattle.vme_threads.specs.OneOrder.{IsEntryOfBoard, IsReportOfOneOrder}
@@ -33,7 +33,7 @@ use Rattle.vme_sequential.proofs.lemmas.MachineRuns.{Legal, IsPerformed, is_perf
 
 -- if the numbers are those of the script, the numbered replies of the lines are the lines
 lines_are : (script : List ScriptLine) (lines : List (ℕ × LineReply)) → numbers_in lines ≡ map (λ one. one.number) script
-    → numbered_replies script (answers_in lines) ≡ lines
+    → numbered_replies script (replies_of_lines lines) ≡ lines
 lines_are [] [] numbers = refl
 lines_are [] (line ∷ lines) numbers = absurd (cc numbers)
 lines_are (one ∷ script) [] numbers = absurd (cc numbers)
@@ -145,7 +145,7 @@ module _ (config : Configuration) (report : Report) (lawful : IsLawful config) (
 
   -- the replies to all lines
   abbrev pub answers : List (List LineReply)
-  answers = map (λ (lines : Vec (ℕ × LineReply)). answers_in lines.items) report.lines.items
+  answers = map (λ (lines : Vec (ℕ × LineReply)). replies_of_lines lines.items) report.lines.items
 
   -- the lines of the processor at an index
   pub lines_of : (x : ℕ) → x < k → (lines : Vec (ℕ × LineReply)) × (slice_get report.lines.items x ≡ Some lines)
@@ -156,17 +156,17 @@ module _ (config : Configuration) (report : Report) (lawful : IsLawful config) (
   order = record {
     known = is.known;
     performed = one.performs;
-    count = length-map report.lines.items (λ (lines : Vec (ℕ × LineReply)). answers_in lines.items) ∙ is.trace.count;
+    count = length-map report.lines.items (λ (lines : Vec (ℕ × LineReply)). replies_of_lines lines.items) ∙ is.trace.count;
     traces = λ b own found.
         let less : b < k =
-        subst (λ n. b < n) (length-map report.lines.items (λ (lines : Vec (ℕ × LineReply)). answers_in lines.items) ∙ is.trace.count)
+        subst (λ n. b < n) (length-map report.lines.items (λ (lines : Vec (ℕ × LineReply)). replies_of_lines lines.items) ∙ is.trace.count)
         (slice_get_within answers b own found) in
         let lines = lines_of b less in
         let board = element_at config.boards b less in
-        let same : answers_in lines.0.items ≡ own =
-        same_Some _ _ (sym (map_at (λ (lines : Vec (ℕ × LineReply)). answers_in lines.items) report.lines.items b lines.0 lines.1) ∙ found) in
+        let same : replies_of_lines lines.0.items ≡ own =
+        same_Some _ _ (sym (map_at (λ (lines : Vec (ℕ × LineReply)). replies_of_lines lines.items) report.lines.items b lines.0 lines.1) ∙ found) in
         subst (IsTrace config b (lines_at config b) (transitions_of b is.run)) same
-        (related_at (λ who (own : BoardConfig) (lines : Vec (ℕ × LineReply)). IsTrace config who (lines_at config who) (transitions_of who is.run) (answers_in lines.items))
+        (related_at (λ who (own : BoardConfig) (lines : Vec (ℕ × LineReply)). IsTrace config who (lines_at config who) (transitions_of who is.run) (replies_of_lines lines.items))
         config.boards report.lines.items b board.0 lines.0 is.trace board.1 lines.1);
   }
 
@@ -200,19 +200,19 @@ module _ (config : Configuration) (report : Report) (lawful : IsLawful config) (
       subst (λ (l : Vec (ℕ × LineReply)). numbers_in l.items ≡ map (λ one. one.number) (script_at config x))
       (get_or_from_slice_get report.lines.items x lines.0 lines.0 lines.1)
       (is.numbers x lines.0 (slice_get_within report.lines.items x lines.0 lines.1)) in
-      let lines_same : numbered_replies script.0 (answers_in lines.0.items) ≡ lines.0.items =
+      let lines_same : numbered_replies script.0 (replies_of_lines lines.0.items) ≡ lines.0.items =
       lines_are script.0 lines.0.items (numbers ∙ ap (λ (s : List ScriptLine). map (λ one. one.number) s) script_is) in
-      let texts : text_of_end e lines.0.items ≡ text_of_board own script.0 (script_state (answers_in lines.0.items) []) t =
+      let texts : text_of_end e lines.0.items ≡ text_of_board own script.0 (script_state (replies_of_lines lines.0.items) []) t =
       λ i. record { slot = end.2.slot i; lines = sym lines_same i; bytes = (memory i).bytes; steps = steps i; made = made i } in
       let left : slice_get (texts_of_report report) x ≡ Some (text_of_end e lines.0.items) =
       ends_at report.boards.items (map (λ (lines : Vec (ℕ × LineReply)). lines.items) report.lines.items) x e lines.0.items end.1
       (map_at (λ (lines : Vec (ℕ × LineReply)). lines.items) report.lines.items x lines.0 lines.1) in
-      let state_at : slice_get (map (λ own. script_state own []) answers) x ≡ Some (script_state (answers_in lines.0.items) []) =
-      map_at (λ own. script_state own []) answers x (answers_in lines.0.items)
-      (map_at (λ (lines : Vec (ℕ × LineReply)). answers_in lines.items) report.lines.items x lines.0 lines.1) in
-      let right : slice_get (texts_of_system config (ended_state last answers)) x ≡ Some (text_of_board own script.0 (script_state (answers_in lines.0.items) []) t) =
+      let state_at : slice_get (map (λ own. script_state own []) answers) x ≡ Some (script_state (replies_of_lines lines.0.items) []) =
+      map_at (λ own. script_state own []) answers x (replies_of_lines lines.0.items)
+      (map_at (λ (lines : Vec (ℕ × LineReply)). replies_of_lines lines.items) report.lines.items x lines.0 lines.1) in
+      let right : slice_get (texts_of_system config (ended_state last answers)) x ≡ Some (text_of_board own script.0 (script_state (replies_of_lines lines.0.items) []) t) =
       boards_at config.boards config.scripts (map (λ own. script_state own []) answers) last.boards x own script.0
-      (script_state (answers_in lines.0.items) []) t board.1 script.1 state_at counted.1 in
+      (script_state (replies_of_lines lines.0.items) []) t board.1 script.1 state_at counted.1 in
       left ∙ ap Some texts ∙ sym right
 
   -- the texts of all entries are those after the turns

@@ -1,4 +1,4 @@
--- What the bytes of a mailbox hold of the words put and taken, and where a master stands with them.
+-- The numbers in the bytes of a mailbox, by the words put and taken and by the phase of a master.
 use Rattle.std.proofs.Common.{◌≡◌, ℕ, ◌+◌, ◌-◌, ◌^◌, ◌≤◌, ◌<◌, ◌⊎◌, Bool, true, false, List, [], ◌∷◌, length, take, get_or, slice_range, refl, ◌∙◌, arith, inl, inr, Some}
 use Rattle.vme_cycle.specs.Functions.{number_of, with_top_bit}
 use Rattle.vme_memory.specs.Boards.{bytes_after_write}
@@ -22,7 +22,7 @@ pub record Kept (m : BoardMailbox) (bytes put taken : List ℕ) : Type 0 where
 abbrev pub IsHeld : BoardMailbox → List ℕ → Type 0
 IsHeld m bytes = number_in bytes (lock_at m) 1 ≡ 128
 
--- what the bytes hold while a master stands in a phase
+-- the numbers in the bytes while a master is in a phase
 abbrev pub Stands : BoardMailbox → List ℕ → List ℕ → List ℕ → Phase → Type 0
 Stands m bytes put taken Idle = number_in bytes (lock_at m) 1 ≡ 0
 Stands m bytes put taken Locked = IsHeld m bytes
@@ -40,7 +40,7 @@ pub record SameNumbers (m : BoardMailbox) (bytes after : List ℕ) : Type 0 wher
   pub words : (n : ℕ) → number_in after (word_at m n) 4 ≡ number_in bytes (word_at m n) 4
 
 module _ (m : BoardMailbox) (bytes after put taken : List ℕ) where
-  -- equal numbers hold the same words
+  -- if the numbers are equal, the counts and the words are kept
   pub kept_same : SameNumbers m bytes after → Kept m bytes put taken → Kept m after put taken
   kept_same same kept = record {
     put_count = same.put_count ∙ kept.put_count;
@@ -52,7 +52,7 @@ module _ (m : BoardMailbox) (bytes after put taken : List ℕ) where
     words = λ n d from below. same.words n ∙ kept.words n d from below;
   }
 
-  -- equal numbers and locks keep where a master stands
+  -- if the numbers and the locks are equal, the condition of a phase is kept
   pub stands_same : (phase : Phase) → SameNumbers m bytes after → number_in after (lock_at m) 1 ≡ number_in bytes (lock_at m) 1
       → Stands m bytes put taken phase → Stands m after put taken phase
   stands_same Idle same lock stands = lock ∙ stands

@@ -18,7 +18,7 @@ use Rattle.vme_shared.proofs.lemmas.Kept.{Kept, Stands, held_by, kept_same, stan
 use Rattle.vme_shared.proofs.lemmas.Rows.{Went, went}
 use Rattle.vme_shared.proofs.lemmas.Quiet.{Quiet, quiet, quiet_same, busy, no_put, no_taken, stayed}
 
--- at most one master is not idle, and the bytes hold what its phase states
+-- at most one master is not idle, and the bytes meet the condition of its phase
 pub record Holds (m : BoardMailbox) (bytes put taken : List ℕ) (phases : ℕ → Option Phase) : Type 0 where
   pub owner : ℕ
   pub phase : Phase
@@ -53,7 +53,7 @@ module _ (m : BoardMailbox) (some : 1 ≤ m.slots) (who : ℕ) (given : Option C
   abbrev takes_by : List ℕ
   takes_by = taken_by (phases who) (after_command m (phases who) given reply)
 
-  -- the master goes on alone while all others are idle
+  -- a master that reaches its next phase while all others are idle keeps the mailbox
   goes_on : (after put taken : List ℕ) (phase next : Phase) → phases who ≡ Some phase → after_command m (Some phase) given reply ≡ Some next
       → Went m after put taken phase next → ((w : ℕ) → (who ≡ w → ⊥) → phases w ≡ Some Idle)
       → Holds m after (put ++ puts_by) (taken ++ takes_by) moved
@@ -70,10 +70,10 @@ module _ (m : BoardMailbox) (some : 1 ≤ m.slots) (who : ℕ) (given : Option C
         others = λ w apart. moved_other w apart ∙ idle w apart;
       }
 
-  -- the master stays idle while another holds the mailbox
-  looks_on : (bytes after put taken : List ℕ) (holds : Holds m bytes put taken phases) → (holds.owner ≡ who → ⊥)
+  -- a master that stays idle while another holds the mailbox keeps the mailbox
+  stays_idle : (bytes after put taken : List ℕ) (holds : Holds m bytes put taken phases) → (holds.owner ≡ who → ⊥)
       → after_command m (Some Idle) given reply ≡ Some Idle → Quiet m bytes after → Holds m after (put ++ puts_by) (taken ++ takes_by) moved
-  looks_on bytes after put taken holds apart goes still =
+  stays_idle bytes after put taken holds apart goes still =
       let at : phases who ≡ Some Idle = holds.others who apart in
       let own_after : after_command m (phases who) given reply ≡ phases who = ap (λ p. after_command m p given reply) at ∙ goes ∙ sym at in
       let put_is : put ≡ put ++ put_by (phases who) (after_command m (phases who) given reply) =
@@ -94,7 +94,7 @@ module _ (m : BoardMailbox) (some : 1 ≤ m.slots) (who : ℕ) (given : Option C
             ];
       }
 
-  -- the numbers of the mailbox and the master's phase stay the same
+  -- a command that leaves the numbers and its master's phase the same keeps the mailbox
   rests : (bytes after put taken : List ℕ) → Holds m bytes put taken phases → Quiet m bytes after
       → ((phase : Phase) → after_command m (Some phase) given reply ≡ Some phase) → Holds m after (put ++ puts_by) (taken ++ takes_by) moved
   rests bytes after put taken holds still stays =
@@ -103,7 +103,7 @@ module _ (m : BoardMailbox) (some : 1 ≤ m.slots) (who : ℕ) (given : Option C
             goes_on after put taken holds.phase holds.phase (subst (λ w. phases w ≡ Some holds.phase) same holds.is) (stays holds.phase)
             (stayed m bytes after put taken holds.phase still holds.kept holds.stands)
             (λ w apart. holds.others w (λ is. apart (sym same ∙ is)))
-        | inr apart ↦ looks_on bytes after put taken holds apart (stays Idle) still
+        | inr apart ↦ stays_idle bytes after put taken holds apart (stays Idle) still
       ]
 
   -- a command that touches the mailbox and that the protocol allows leads to a next phase
@@ -120,7 +120,7 @@ module _ (m : BoardMailbox) (some : 1 ≤ m.slots) (who : ℕ) (given : Option C
       let next = some_value (after_command m (Some phase) given reply) there in
       (next.0, next.1, sym row ∙ next.1)
 
-  -- a command that touches the mailbox is the holder's, or finds the mailbox free or locked
+  -- a command that touches the mailbox and that the protocol allows keeps the mailbox
   touched : (board : Board) (command : Command) (put taken : List ℕ) → given ≡ Some command → touches m command ≡ true
       → reply ≡ (step board command).0 → is_some (after_command m (phases who) given reply) ≡ true → Holds m board.bytes put taken phases
       → Holds m (step board command).1.bytes (put ++ puts_by) (taken ++ takes_by) moved
@@ -149,7 +149,7 @@ module _ (m : BoardMailbox) (some : 1 ≤ m.slots) (who : ℕ) (given : Option C
                   ])
               | inr held ↦
                   let still = busy m board.bytes (step board command).1.bytes (access_of command (step board command).0) next.0 some held (did board command) next.2 in
-                  looks_on board.bytes (step board command).1.bytes put taken holds apart (next.1 ∙ ap Some still.0) still.1
+                  stays_idle board.bytes (step board command).1.bytes put taken holds apart (next.1 ∙ ap Some still.0) still.1
             ]
       ]
 
@@ -220,7 +220,7 @@ kept_queue m bytes put taken kept = record {
   capacity = kept.few;
 }
 
--- words of a queue may be appended part by part or at once
+-- words that are appended to a queue in two parts may be appended at once
 joined : (m : BoardMailbox) (put a b taken c d : List ℕ) → IsQueue m ((put ++ a) ++ b) ((taken ++ c) ++ d)
     → IsQueue m (put ++ (a ++ b)) (taken ++ (c ++ d))
 joined m put a b taken c d queue =

@@ -1,4 +1,4 @@
--- What leaves all numbers of a mailbox as they are.
+-- Commands that leave all numbers of a mailbox the same.
 use Rattle.std.proofs.Common.{◌≡◌, ℕ, ◌+◌, ◌≤◌, ◌⊎◌, false, List, [], length, refl, ap, sym, ◌∙◌, arith, inl, inr, Option, Some, None}
 use Rattle.std.specs.Prelude.{nat_lt, nat_le, ◌==◌, ◌&&◌, if◌then◌else◌, slice_range}
 use Rattle.std.proofs.lemmas.Bool.{and_parts, and_cases, eqb-true, ltb-false}
@@ -100,7 +100,7 @@ no_taken (Some (Written p x)) = refl
 no_taken (Some (Fetched t x)) = refl
 no_taken (Some Counted) = refl
 
--- a master whose phase stays the same keeps what the mailbox holds
+-- if the numbers and a master's phase stay the same, the words and the condition of the phase are kept
 pub stayed : (m : BoardMailbox) (bytes after put taken : List ℕ) (phase : Phase) → Quiet m bytes after → Kept m bytes put taken
     → Stands m bytes put taken phase → Went m after put taken phase phase
 stayed m bytes after put taken phase still kept stands =

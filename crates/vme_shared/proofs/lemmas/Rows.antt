@@ -1,4 +1,4 @@
--- Each row of the protocol keeps what a mailbox holds, and its master goes on.
+-- Each row of the protocol keeps the mailbox and leads its master to the next phase.
 use Rattle.std.proofs.Common.{◌≡◌, ℕ, ◌+◌, ◌-◌, ◌%◌, ◌^◌, ◌≤◌, ◌<◌, ◌⊎◌, true, List, [], ◌∷◌, ◌++◌, length, take, get_or, slice_range, refl, ap, sym, ◌∙◌, subst, arith, inl, inr, Some}
 use Rattle.std.specs.Prelude.{not, if◌then◌else◌, nat_le, ◌==◌, ◌&&◌}
 use Rattle.std.proofs.lemmas.Bool.{cases_Bool, and_parts, eqb-true, eqb-false, ltb-true, cases_lt, not-true}
@@ -13,7 +13,7 @@ use Rattle.vme_shared.proofs.lemmas.Places.{word_within, words_apart}
 use Rattle.vme_shared.proofs.lemmas.MailboxSteps.{Did}
 use Rattle.vme_shared.proofs.lemmas.Kept.{Kept, IsHeld, Stands, kept_same, lock_set, lock_written, reached_is}
 
--- the words after an access, what the bytes hold of them, and where its master stands
+-- the words after an access, with the conditions of the mailbox and of the master's next phase
 pub record Went (m : BoardMailbox) (after put taken : List ℕ) (phase next : Phase) : Type 0 where
   pub puts : List ℕ
   pub takes : List ℕ
@@ -22,7 +22,7 @@ pub record Went (m : BoardMailbox) (after put taken : List ℕ) (phase next : Ph
   pub kept : Kept m after puts takes
   pub stands : Stands m after puts takes next
 
--- an access that puts and takes no word keeps the words
+-- an access that puts and takes no word leaves the words the same
 pub same_words : (m : BoardMailbox) (after put taken : List ℕ) (phase next : Phase) → put_by (Some phase) (Some next) ≡ []
     → taken_by (Some phase) (Some next) ≡ [] → Kept m after put taken → Stands m after put taken next → Went m after put taken phase next
 same_words m after put taken phase next no_put no_taken kept stands = record {
@@ -35,7 +35,7 @@ same_words m after put taken phase next no_put no_taken kept stands = record {
 }
 
 module _ (m : BoardMailbox) (some : 1 ≤ m.slots) (bytes after put taken : List ℕ) where
-  -- the lock is taken
+  -- in the idle phase, a lock that is set was free, and is taken then
   row_lock : (at len old : ℕ) → at ≡ lock_at m → len ≡ 1 → Kept m bytes put taken → Stands m bytes put taken Idle → Did bytes (Sets at len old) after
       → (old ≡ 0) × IsHeld m after × Kept m after put taken
   row_lock at len old here one kept stands did =
@@ -47,7 +47,7 @@ module _ (m : BoardMailbox) (some : 1 ≤ m.slots) (bytes after put taken : List
       ∙ ap (λ l. bytes_after_write bytes (lock_at m) (with_top_bit (slice_range bytes (lock_at m) (lock_at m + l)))) one in
       (is_zero, rw is set.0, rw is (kept_same m bytes _ put taken set.1 kept))
 
-  -- the lock is released
+  -- a write that releases the lock leads to the idle phase
   row_unlock : (phase : Phase) (at len number : ℕ) → is_unlock m at len number ≡ true → put_by (Some phase) (Some Idle) ≡ []
       → taken_by (Some phase) (Some Idle) ≡ [] → Kept m bytes put taken → Did bytes (Writes at len number) after → Went m after put taken phase Idle
   row_unlock phase at len number unlocks no_put no_taken kept (new, long, number_is, within, is) =
@@ -62,7 +62,7 @@ module _ (m : BoardMailbox) (some : 1 ≤ m.slots) (bytes after put taken : List
       same_words m after put taken phase Idle no_put no_taken (rw is_there (kept_same m bytes _ put taken written.1 kept))
       (rw is_there (written.0 ∙ number_is ∙ zero_written))
 
-  -- the next word is written to its slot, which is free
+  -- a write of the next word to its slot, which is free, leads to the phase with the word written
   row_word : (p t at len x : ℕ) → at ≡ word_at m p → len ≡ 4 → has_space m p t ≡ true → Kept m bytes put taken → Stands m bytes put taken (Both p t)
       → Did bytes (Writes at len x) after → Went m after put taken (Both p t) (Written p x)
   row_word p t at len x here four buffer kept (held, p_is, t_is) (new, long, number_is, within, is) =
@@ -96,7 +96,7 @@ module _ (m : BoardMailbox) (some : 1 ≤ m.slots) (bytes after put taken : List
         number_new bytes new (word_at m p) 4 (omega arith) (long ∙ four) ∙ number_is,
       ))
 
-  -- the put count is raised, so the word is put
+  -- a write of the put count plus one puts the word
   row_put : (p x at len number : ℕ) → at ≡ put_count_at m → len ≡ 4 → number ≡ p + 1 → Kept m bytes put taken → Stands m bytes put taken (Written p x)
       → Did bytes (Writes at len number) after → Went m after put taken (Written p x) Counted
   row_put p x at len number here four raised kept (held, p_is, below, free, word_is) (new, long, number_is, within, is) =
@@ -132,7 +132,7 @@ module _ (m : BoardMailbox) (some : 1 ≤ m.slots) (bytes after put taken : List
         stands = rw is_there (number_apart bytes new (put_count_at m) (lock_at m) 1 inside (inl (omega arith)) ∙ held);
       }
 
-  -- the take count is raised, so the word is taken
+  -- a write of the take count plus one takes the word
   row_take : (t x at len number : ℕ) → at ≡ take_count_at m → len ≡ 4 → number ≡ (t + 1) % 2 ^ 32 → Kept m bytes put taken
       → Stands m bytes put taken (Fetched t x) → Did bytes (Writes at len number) after → Went m after put taken (Fetched t x) Counted
   row_take t x at len number here four raised kept (held, t_is, below, word_is) (new, long, number_is, within, is) =

@@ -45,7 +45,7 @@ both_none (Some fault) b none = absurd cc
 both_none None (Some fault) none = absurd cc
 both_none None None none = (refl, refl)
 
--- the transfers that the check of a mailbox looks at are lawful
+-- the two transfers that the check of a mailbox examines are lawful
 record Looked (m : Mailbox) : Type 0 where
   lock : IsLawfulRequest (set_lock m.am m.addr)
   last : IsLawfulRequest (read_word m.am (word_at m (m.slots - 1)))
@@ -152,7 +152,7 @@ first_lawful (Unlock am addr) none = no_refusal (clear_lock am addr) _ refl none
 first_lawful (Put mailbox word) none = (looked mailbox none).lock
 first_lawful (Take mailbox) none = (looked mailbox none).lock
 
--- an accepted request rests before its first call
+-- an accepted request has not started before its first call
 pub rests : (s : SharedJob) → shared_refusal s.request ≡ None → shared_next s [] ≡ NotStarted
 rests s none =
     let one = first_lawful s.request none in

@@ -13,7 +13,7 @@ use Rattle.vme_arbiter.specs.declared.command.ArbReply.{ArbReply}
 use Rattle.vme_arbiter.specs.declared.command.ArbReply.TheVariants as arb_replies
 use Rattle.vme_arbiter.specs.Requests.{is_level}
 use Rattle.vme_arbiter.specs.Arbitration.{Arbitration}
-use Rattle.vme_arbiter.specs.Masters.{may_give, StandsAsReplied}
+use Rattle.vme_arbiter.specs.Masters.{may_give, MatchesReply}
 use Rattle.vme_core.specs.declared.event.EventReply.{EventReply}
 use Rattle.vme_core.specs.declared.event.EventReply.TheVariants as replies
 use Rattle.vme_core.specs.Calls.{Call, OnBoard, OnBus}
@@ -44,15 +44,15 @@ use Rattle.vme_shared.specs.Tables.{SharedJob, Progress, At, Over, transfer_job,
 use Rattle.vme_shared.proofs.Transfers.{IsFormed, good_end, ends_formed}
 use Rattle.vme_shared.proofs.Steps.{IsSound, IsGood, GoesSound, first_sound, step_goes, step_good}
 
--- a stage at work has its own bus job, which has not ended
-record AtWork (s : SharedJob) (stage : Stage) (job : Job) (given : Inputs) : Type 0 where
+-- the current stage has its own bus job, which has not ended
+record IsCurrent (s : SharedJob) (stage : Stage) (job : Job) (given : Inputs) : Type 0 where
   own : stage_job s stage ≡ Ok job
   sound : IsSound stage
   going : (outcome : Outcome) → next_of job given ≢ Returns outcome
 
 -- a progress at a stage has its own bus job, which has not ended
 abbrev Standing : SharedJob → Progress → Type 0
-Standing s (At stage job given) = AtWork s stage job given
+Standing s (At stage job given) = IsCurrent s stage job given
 Standing s (Over end) = Unit {0}
 
 -- a stage before its first call has its own bus job
@@ -72,7 +72,7 @@ step_standing : (s : SharedJob) (step : StageResult) → GoesSound step → Stan
 step_standing s (Continue stage) sound = called_standing s stage (stage_job s stage) refl sound
 step_standing s (Finish end) sound = tt
 
--- whatever its bus job does next, a stage at work has its own bus job
+-- whatever its bus job does next, the current stage has its own bus job
 by_standing : (s : SharedJob) (stage : Stage) (job : Job) (given : Inputs) (next : NextStep Outcome) → next_of job given ≡ next
     → stage_job s stage ≡ Ok job → IsSound stage → Standing s (progress_by s stage job given next)
 by_standing s stage job given NotStarted is own sound =
@@ -85,13 +85,13 @@ by_standing s stage job given (Invokes call) is own sound = record {
 by_standing s stage job given (Returns outcome) is own sound =
     step_standing s (step_after s.request stage outcome) (step_goes s.request stage outcome)
 
--- after one more reply, a stage at work has its own bus job
+-- after one more reply, the current stage has its own bus job
 given_standing : (s : SharedJob) (p : Progress) (last : Option EventReply) → Standing s p → Standing s (progress_given s last p)
 given_standing s (At stage job given) last at =
     by_standing s stage job (last ∷ given) (next_of job (last ∷ given)) refl at.own at.sound
 given_standing s (Over end) last at = tt
 
--- after any replies, a stage at work has its own bus job
+-- after any replies, the current stage has its own bus job
 standing : (s : SharedJob) (g : Inputs) → Standing s (progress_of s g)
 standing s [] = fresh_standing s (first_stage s.request) (stage_job s (first_stage s.request)) refl (first_sound s.request)
 standing s (last ∷ g) = given_standing s (progress_of s g) last (standing s g)
@@ -144,7 +144,7 @@ single (Unlock am addr) stage = refl
 single (Put mailbox word) stage = mailbox_single mailbox stage
 single (Take mailbox) stage = mailbox_single mailbox stage
 
--- a call is that of the bus job at work
+-- a call is that of the current bus job
 pub shown_makes : (next : NextStep Outcome) (call : Call) → task_shown next ≡ Invokes call → next ≡ Invokes call
 shown_makes next call made = map_makes (λ outcome. shared.Denied) next call made
 
@@ -156,13 +156,13 @@ turns_at s (At stage job given) cmd at lawful made =
     let task : next_of (Bus own.bus) given ≡ Invokes (OnBus cmd) =
     subst (λ (one : Job). next_of one given ≡ Invokes (OnBus cmd)) own.is (shown_makes (next_of job given) (OnBus cmd) made) in
     subst (λ (slot : ℕ). may_give slot (last_arb_reply given) cmd ≡ true) own.slot
-    (transfers.turns_go_by own.bus given cmd (ap is_level own.level ∙ lawful) task)
+    (transfers.commands_are_allowed own.bus given cmd (ap is_level own.level ∙ lawful) task)
 turns_at s (Over end) cmd at lawful made = absurd cc
 
 -- the arbiter's last reply allows each command to the arbiter
-pub turns_go_by : (s : SharedJob) (g : Inputs) (cmd : ArbCmd) → is_level s.level ≡ true → shared_next s g ≡ Invokes (OnBus cmd)
+pub commands_are_allowed : (s : SharedJob) (g : Inputs) (cmd : ArbCmd) → is_level s.level ≡ true → shared_next s g ≡ Invokes (OnBus cmd)
     → may_give s.slot (shared_arb_reply s g) cmd ≡ true
-turns_go_by s g cmd lawful made = turns_at s (progress_of s g) cmd (standing s g) lawful made
+commands_are_allowed s g cmd lawful made = turns_at s (progress_of s g) cmd (standing s g) lawful made
 
 -- at each progress data go to a board only while the arbiter's last reply is `Granted`
 holds_at : (s : SharedJob) (p : Progress) (board : ℕ) (command : Option Command) → Standing s p
@@ -221,7 +221,7 @@ record EndsWell (s : SharedJob) (stage : Stage) (reply : EventReply) (outcome : 
 
 -- a transfer that ends after a good reply ends well
 task_ends : (s : SharedJob) (stage : Stage) (job : Job) (given : Inputs) (call : Call) (reply : EventReply) (outcome : Outcome)
-    → AtWork s stage job given → next_of job given ≡ Invokes call → fits call reply ≡ true → reply ≢ replies.Bus arb_replies.Denied
+    → IsCurrent s stage job given → next_of job given ≡ Invokes call → fits call reply ≡ true → reply ≢ replies.Bus arb_replies.Denied
     → next_of job (Some reply ∷ given) ≡ Returns outcome → EndsWell s stage reply outcome
 task_ends s stage job given call reply outcome at made fit good ends =
     let own = own_task s stage job at.own in
@@ -238,21 +238,21 @@ task_ends s stage job given call reply outcome at made fit good ends =
           granted;
     }
 
--- after a good reply of the arbiter the slot stands as it states, or the transfer has ended and the slot is free
+-- after a good reply of the arbiter the slot holds or waits as it states, or the transfer has ended and the slot is free
 turn_by : (s : SharedJob) (stage : Stage) (job : Job) (given : Inputs) (reply : ArbReply) (bus : Arbitration) (slot : ℕ) (next : NextStep Outcome)
-    → ((outcome : Outcome) → next ≡ Returns outcome → replies.Bus reply ≡ replies.Bus arb_replies.Freed) → StandsAsReplied bus slot (Some reply)
-    → StandsAsReplied bus slot (arb_reply_at (progress_by s stage job (Some (replies.Bus reply) ∷ given) next))
+    → ((outcome : Outcome) → next ≡ Returns outcome → replies.Bus reply ≡ replies.Bus arb_replies.Freed) → MatchesReply bus slot (Some reply)
+    → MatchesReply bus slot (arb_reply_at (progress_by s stage job (Some (replies.Bus reply) ∷ given) next))
 turn_by s stage job given reply bus slot NotStarted freed stands = stands
 turn_by s stage job given reply bus slot (Invokes call) freed stands = stands
 turn_by s stage job given reply bus slot (Returns outcome) freed stands =
     let free : reply ≡ arb_replies.Freed = let one = freed outcome refl in cc in
-    subst (StandsAsReplied bus slot) (sym (step_reported s (step_after s.request stage outcome)))
-    (subst (λ (r : ArbReply). StandsAsReplied bus slot (Some r)) free stands)
+    subst (MatchesReply bus slot) (sym (step_reported s (step_after s.request stage outcome)))
+    (subst (λ (r : ArbReply). MatchesReply bus slot (Some r)) free stands)
 
--- at each progress the slot stands as the last reply states after a good reply of the arbiter
+-- at each progress, after a good reply of the arbiter, the slot holds or waits as the last reply states
 turn_at : (s : SharedJob) (p : Progress) (cmd : ArbCmd) (reply : ArbReply) (bus : Arbitration) (slot : ℕ) → Standing s p
     → next_at p ≡ Invokes (OnBus cmd) → fits (OnBus cmd) (replies.Bus reply) ≡ true → replies.Bus reply ≢ replies.Bus arb_replies.Denied
-    → StandsAsReplied bus slot (Some reply) → StandsAsReplied bus slot (arb_reply_at (progress_given s (Some (replies.Bus reply)) p))
+    → MatchesReply bus slot (Some reply) → MatchesReply bus slot (arb_reply_at (progress_given s (Some (replies.Bus reply)) p))
 turn_at s (At stage job given) cmd reply bus slot at made fit good stands =
     turn_by s stage job given reply bus slot (next_of job (Some (replies.Bus reply) ∷ given))
     (λ outcome ends.
@@ -261,10 +261,10 @@ turn_at s (At stage job given) cmd reply bus slot at made fit good stands =
     stands
 turn_at s (Over end) cmd reply bus slot at made fit good stands = absurd cc
 
--- after a good reply of the arbiter the slot stands as the last reply states
+-- after a good reply of the arbiter the slot holds or waits as the last reply states
 pub turn_reported : (s : SharedJob) (g : Inputs) (cmd : ArbCmd) (reply : ArbReply) (bus : Arbitration) (slot : ℕ)
     → shared_next s g ≡ Invokes (OnBus cmd) → fits (OnBus cmd) (replies.Bus reply) ≡ true → replies.Bus reply ≢ replies.Bus arb_replies.Denied
-    → StandsAsReplied bus slot (Some reply) → StandsAsReplied bus slot (shared_arb_reply s (Some (replies.Bus reply) ∷ g))
+    → MatchesReply bus slot (Some reply) → MatchesReply bus slot (shared_arb_reply s (Some (replies.Bus reply) ∷ g))
 turn_reported s g cmd reply bus slot made fit good stands = turn_at s (progress_of s g) cmd reply bus slot (standing s g) made fit good stands
 
 -- a good reply of a board leaves the arbiter's last reply the same, at each stage

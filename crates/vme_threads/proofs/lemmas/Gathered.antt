@@ -26,7 +26,7 @@ use Rattle.vme_threads.specs.declared.ports.Ports.{Ports}
 use Rattle.vme_threads.specs.declared.report.BoardReport.{BoardReport}
 use Rattle.vme_threads.specs.declared.report.Report.{Report}
 use Rattle.vme_threads.specs.Settlements.{BusPass, opening_objects, IsSettled}
-use Rattle.vme_threads.specs.Rans.{HasRun, numbers_in, answers_in}
+use Rattle.vme_threads.specs.Rans.{HasRun, numbers_in, replies_of_lines}
 use Rattle.vme_threads.specs.Reports.{HaveRun, CanGather}
 use Rattle.vme_threads.specs.Gatherings.{IsBoardHome, IsGatheredBoard, IsGatheredFrom}
 use Rattle.vme_threads.proofs.Places.{element_at, map_length, map_at, each_mapped, both_mapped, element_of_first, element_after}
@@ -48,21 +48,21 @@ have_none config ports = Each-nil (HasRun config ports)
 module _ (config : Configuration) (ports : Ports) (rans : List Ran) (can : CanGather config ports rans) where
   -- the passes of the finished workers, in order
   abbrev passes : List BusPass
-  passes = map (λ (r : Ran). r.pass_set.pass) rans
+  passes = map (λ (r : Ran). r.processor_pass.pass) rans
 
   -- the counts of the finished workers, in order
   abbrev counts : List (Vec ℕ)
-  counts = map (λ (r : Ran). r.pass_set.made) rans
+  counts = map (λ (r : Ran). r.processor_pass.made) rans
 
   -- each of the passes is one of the ports' array
   pub passes_fit : All (IsPassOf ports.array) passes
   passes_fit =
-      each_mapped (λ k (p : BusPass). IsPassOf ports.array p) (λ (r : Ran). r.pass_set.pass) rans
+      each_mapped (λ k (p : BusPass). IsPassOf ports.array p) (λ (r : Ran). r.processor_pass.pass) rans
       (λ k r k<. (can.runs k r k<).fits.array)
 
   -- there are as many passes as the array has
   pub passes_all : length passes ≡ passes_of ports.array
-  passes_all = map_length (λ (r : Ran). r.pass_set.pass) rans ∙ can.count ∙ sym can.built.passes
+  passes_all = map_length (λ (r : Ran). r.processor_pass.pass) rans ∙ can.count ∙ sym can.built.passes
 
   -- there is a slot for each board
   pub slots_count : length ports.slots.items ≡ length config.boards
@@ -70,14 +70,14 @@ module _ (config : Configuration) (ports : Ports) (rans : List Ran) (can : CanGa
 
   -- each worker has a count for each board and one for the arbiter
   count_each : (k : ℕ) (r : Ran) → k < length rans
-      → length (slice_index_or rans k r).pass_set.made.items ≡ length config.boards + 1
+      → length (slice_index_or rans k r).processor_pass.made.items ≡ length config.boards + 1
   count_each k r k< =
       let run = can.runs k r k< in omega (arith, run.fits.made_count, run.fits.object_count, can.built.object_count)
 
   -- each worker has at least n counts, if n is at most the number of objects
   pub counts_wide : (n : ℕ) → n ≤ length config.boards + 1 → All (λ (own : Vec ℕ). n ≤ length own.items) counts
   counts_wide n within =
-      each_mapped (λ k (own : Vec ℕ). n ≤ length own.items) (λ (r : Ran). r.pass_set.made) rans
+      each_mapped (λ k (own : Vec ℕ). n ≤ length own.items) (λ (r : Ran). r.processor_pass.made) rans
       (λ k r k<. omega (arith, within, count_each k r k<))
 
   -- the count by worker `who` of its calls of object x is the number of its entries of that object
@@ -85,21 +85,21 @@ module _ (config : Configuration) (ports : Ports) (rans : List Ran) (can : CanGa
       → made ≡ map (λ (own : Vec ℕ). slice_index_or own.items x 0) counts
       → slice_index_or made who d ≡ length (part x (slice_index_or passes who p).mine)
   counted x who d p made within less is =
-      let there : who < length rans = omega (arith, less, map_length (λ (r : Ran). r.pass_set.pass) rans) in
-      let counted_too : who < length counts = omega (arith, there, map_length (λ (r : Ran). r.pass_set.made) rans) in
+      let there : who < length rans = omega (arith, less, map_length (λ (r : Ran). r.processor_pass.pass) rans) in
+      let counted_too : who < length counts = omega (arith, there, map_length (λ (r : Ran). r.processor_pass.made) rans) in
       let r = (element_at rans who there).0 in
       let own = (element_at counts who counted_too).0 in
       let run = can.runs who r there in
       ap (λ (l : List ℕ). slice_index_or l who d) is
       ∙ map_at (λ (own : Vec ℕ). slice_index_or own.items x 0) counts who d own counted_too
-      ∙ ap (λ (own : Vec ℕ). slice_index_or own.items x 0) (map_at (λ (r : Ran). r.pass_set.made) rans who own r there)
+      ∙ ap (λ (own : Vec ℕ). slice_index_or own.items x 0) (map_at (λ (r : Ran). r.processor_pass.made) rans who own r there)
       ∙ run.fits.counted x 0 (omega (arith, within, run.fits.object_count, can.built.object_count))
-      ∙ ap (λ (p : BusPass). length (part x p.mine)) (sym (map_at (λ (r : Ran). r.pass_set.pass) rans who p r there))
+      ∙ ap (λ (p : BusPass). length (part x p.mine)) (sym (map_at (λ (r : Ran). r.processor_pass.pass) rans who p r there))
 
   -- each command and reply of a worker is of its object's kind
   kinds_all : All (λ (p : BusPass). All (MatchesKind (length config.boards)) p.mine) passes
   kinds_all =
-      each_mapped (λ k (p : BusPass). All (MatchesKind (length config.boards)) p.mine) (λ (r : Ran). r.pass_set.pass) rans
+      each_mapped (λ k (p : BusPass). All (MatchesKind (length config.boards)) p.mine) (λ (r : Ran). r.processor_pass.pass) rans
       (λ k r k<. (can.runs k r k<).kinds)
 
   module _ (homes boards : List (Home BusObject)) (arbiter : Home BusObject)
@@ -156,8 +156,8 @@ module _ (config : Configuration) (ports : Ports) (rans : List Ran) (can : CanGa
             steps = is.steps;
             process_count =
                 ap length is.made ∙ map_length (λ (own : Vec ℕ). slice_index_or own.items x 0) counts
-                ∙ map_length (λ (r : Ran). r.pass_set.made) rans
-                ∙ sym (map_length (λ (r : Ran). r.pass_set.pass) rans);
+                ∙ map_length (λ (r : Ran). r.processor_pass.made) rans
+                ∙ sym (map_length (λ (r : Ran). r.processor_pass.pass) rans);
             makes = λ who d p who<.
                 counted x who d p _ (omega (arith, less)) who< is.made
                 ∙ board_count (length config.boards) x (slice_index_or passes who p).mine less (kinds_all who p who<);
@@ -177,14 +177,14 @@ module _ (config : Configuration) (ports : Ports) (rans : List Ran) (can : CanGa
             is = record {
               settled = is_settled;
               whose =
-                  each_mapped (λ i (p : BusPass). p.who ≡ i) (λ (r : Ran). r.pass_set.pass) rans
+                  each_mapped (λ i (p : BusPass). p.who ≡ i) (λ (r : Ran). r.processor_pass.pass) rans
                   (λ k r k<. let run = can.runs k r k< in run.fits.who ∙ run.same);
               trace =
                   subst (AllAt (λ who (p : BusPass) (ls : Vec (ℕ × LineReply)). IsTrace config who (lines_at config who)
-                  (run_of p.mine) (answers_in ls.items)) passes) (sym lines)
+                  (run_of p.mine) (replies_of_lines ls.items)) passes) (sym lines)
                   (both_mapped (λ who (p : BusPass) (ls : Vec (ℕ × LineReply)). IsTrace config who (lines_at config who)
-                  (run_of p.mine) (answers_in ls.items))
-                  (λ (r : Ran). r.pass_set.pass) (λ (r : Ran). r.lines) rans (λ k r k<. (can.runs k r k<).trace));
+                  (run_of p.mine) (replies_of_lines ls.items))
+                  (λ (r : Ran). r.processor_pass.pass) (λ (r : Ran). r.lines) rans (λ k r k<. (can.runs k r k<).trace));
               numbers =
                   subst (Each (λ who (ls : Vec (ℕ × LineReply)). numbers_in ls.items
                   ≡ map (λ (one : ScriptLine). one.number) (script_at config who))) (sym lines)
@@ -199,8 +199,8 @@ module _ (config : Configuration) (ports : Ports) (rans : List Ran) (can : CanGa
               bus_steps = steps;
               bus_process_count =
                   ap length made_is ∙ map_length (λ (own : Vec ℕ). slice_index_or own.items n 0) counts
-                  ∙ map_length (λ (r : Ran). r.pass_set.made) rans
-                  ∙ sym (map_length (λ (r : Ran). r.pass_set.pass) rans);
+                  ∙ map_length (λ (r : Ran). r.processor_pass.made) rans
+                  ∙ sym (map_length (λ (r : Ran). r.processor_pass.pass) rans);
               bus_makes = λ who d p who<.
                   counted n who d p _ (omega arith) who< made_is
                   ∙ bus_count n (slice_index_or passes who p).mine (kinds_all who p who<);

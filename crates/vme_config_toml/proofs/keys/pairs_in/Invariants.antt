@@ -4,6 +4,6 @@ use Rattle.vme_config_toml.specs.Values.{items_of, pair}
 use Rattle.vme_config_toml.proofs.Lists.{with_prefix}
 use Rattle.vme_config_toml.proofs.keys.pairs_in.Given as goal
 
--- the pairs that were read, with those of the values that are left, are the whole
+-- the pairs that were read, followed by those of the remaining values, are those of all values
 abbrev pub invariant-loop-item : goal.invariant-loop-item
 invariant-loop-item l = with_prefix l.pairs.items (items_of pair (items_view (drop l.item-index l.items.items))) ≡ items_of pair (items_view l.fn.items.items)

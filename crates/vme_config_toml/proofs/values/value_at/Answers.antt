@@ -1,4 +1,4 @@
--- The map of the table finds the value of the member.
+-- The lookup in the table's map returns the value of the member with the key.
 use Rattle.toml.proofs.Views.{table_get}
 use Rattle.vme_config_toml.proofs.values.value_at.Goals as goal
 

@@ -1,5 +1,5 @@
 -- A run that continues another one.
-use Rattle.vme_core.proofs.lemmas.Dones.{did_trans}
+use Rattle.vme_core.proofs.lemmas.RunSteps.{did_trans}
 use Rattle.vme_core.proofs.laws.runs_compose.Goals as goal
 
 -- by the lemma on runs

@@ -1,4 +1,4 @@
--- The digits of all lanes are their text.
+-- The digits of all data lanes are their text.
 use Rattle.std.proofs.Common.{◌≡◌, length, rules}
 use Rattle.vme_grammar.proofs.Lanes.{all_eight}
 use Rattle.vme_grammar.proofs.print.all_lanes.Goals as goal

@@ -1,4 +1,4 @@
--- The digits of the last four lanes are their text.
+-- The digits of the last four data lanes are their text.
 use Rattle.std.proofs.Common.{◌≡◌, length, rules}
 use Rattle.vme_grammar.proofs.Lanes.{last_four}
 use Rattle.vme_grammar.proofs.print.last_lanes.Goals as goal

@@ -1,4 +1,4 @@
--- One more write extends the prefix by the bytes that it took.
+-- One more write extends the prefix by the bytes that it wrote.
 use Rattle.std.proofs.Common.{take, ◌++◌}
 use Rattle.vme_io.proofs.lemmas.Appending.{Appends-more, split_more}
 use Rattle.vme_io.proofs.sink.write_all.Goals as goal

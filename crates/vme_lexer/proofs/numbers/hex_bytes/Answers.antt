@@ -1,4 +1,4 @@
--- One more pair of digits.
+-- One more pair of digits keeps `IsSpelled`, and a word that is rejected at the end spells no bytes.
 use Rattle.std.proofs.Common.{◌≡◌, ◌≤◌, ◌^◌, ◌==◌, ◌∙◌, sym, ap, true, false, inl, inr, arith, length, length-drop}
 use Rattle.std.proofs.lemmas.List.{take_rest}
 use Rattle.vme_lexer.proofs.Digits.{spelled_more, unspelled_word, unspelled_bytes}
@@ -11,7 +11,7 @@ loop-rest-preserved g c =
       bytes = spelled_more c.loop-rest.bytes.items c.push.new.self.items c.loop-rest.sum c.hex_digit.result c.hex_digit-in-len2-up.result rest _ c.args.word.now
           (omega arith) c.in-len2-up.len_at_least c.hex_digit.ensures.digit c.hex_digit-in-len2-up.ensures.digit c.push.ensures.items (take_rest rest 2)
           (omega (arith, c.push.ensures.len)) c.loop-rest.invariant.bytes;
-      capacity = omega (arith, c.push.ensures.len, ap length (take_rest rest 2), length-drop 2 rest, c.loop-rest.invariant.capacity, c.in-len2-up.len_at_least);
+      bound = omega (arith, c.push.ensures.len, ap length (take_rest rest 2), length-drop 2 rest, c.loop-rest.invariant.bound, c.in-len2-up.len_at_least);
     }
 
 pub returns-else-is_empty-2 : goal.returns-else-is_empty-2

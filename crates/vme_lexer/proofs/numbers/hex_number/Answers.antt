@@ -1,18 +1,18 @@
 -- One more digit does not overflow, and is read.
 use Rattle.std.proofs.Common.{None, refl, arith}
 use Rattle.std.proofs.lemmas.List.{drop_more}
-use Rattle.vme_lexer.proofs.Digits.{buffer_for, read_more}
+use Rattle.vme_lexer.proofs.Digits.{digit_fits, read_more}
 use Rattle.vme_lexer.proofs.numbers.hex_number.Goals as goal
 
 pub overflow_mul-number : goal.overflow_mul-number
 overflow_mul-number c =
-    let capacity = buffer_for c.loop-digit.number c.loop-digit.digit-index 4294967296 None (omega arith) refl c.loop-digit.invariant.capacity in
-    omega (arith, capacity)
+    let bound = digit_fits c.loop-digit.number c.loop-digit.digit-index 4294967296 None (omega arith) refl c.loop-digit.invariant.bound in
+    omega (arith, bound)
 
 pub overflow_add-number : goal.overflow_add-number
 overflow_add-number c =
-    let capacity = buffer_for c.loop-digit.number c.loop-digit.digit-index c.hex_digit.result _ (omega arith) c.hex_digit.ensures.digit c.loop-digit.invariant.capacity in
-    omega (arith, capacity)
+    let bound = digit_fits c.loop-digit.number c.loop-digit.digit-index c.hex_digit.result _ (omega arith) c.hex_digit.ensures.digit c.loop-digit.invariant.bound in
+    omega (arith, bound)
 
 pub loop-digit-preserved : goal.loop-digit-preserved
 loop-digit-preserved c =

@@ -3,7 +3,7 @@ use Rattle.std.specs.Prelude.{◌==◌}
 use Rattle.std.specs.List.{position_or_len}
 use Rattle.vme_lexer.proofs.parts.first_near_place.Given as goal
 
--- the byte is not in what was seen
+-- the byte is not in the part of the text that was searched
 abbrev pub invariant-loop-eight : goal.invariant-loop-eight
 invariant-loop-eight l = record {
   all : l.seen + length l.rest ≡ length l.text;

@@ -1,4 +1,4 @@
-use Rattle.vme_line_task.proofs.lemmas.Kept.{line_begins, line_first, line_turns, line_holds, line_turn, line_datum, line_ends}
+use Rattle.vme_line_task.proofs.lemmas.Kept.{line_begins, line_first, line_command_allowed, line_holds, line_slot_state, line_datum, line_ends}
 use Rattle.vme_line_task.proofs.laws.lines_keep_their_tenure.Goals as goal
 
 pub returns-clause-begin : goal.returns-clause-begin
@@ -7,14 +7,14 @@ returns-clause-begin c = line_begins
 pub returns-clause-first : goal.returns-clause-first
 returns-clause-first c = line_first
 
-pub returns-clause-turns : goal.returns-clause-turns
-returns-clause-turns c = line_turns
+pub returns-clause-command_allowed : goal.returns-clause-command_allowed
+returns-clause-command_allowed c = line_command_allowed
 
 pub returns-clause-holds : goal.returns-clause-holds
 returns-clause-holds c = line_holds
 
-pub returns-clause-turn : goal.returns-clause-turn
-returns-clause-turn c = line_turn
+pub returns-clause-slot_state : goal.returns-clause-slot_state
+returns-clause-slot_state c = line_slot_state
 
 pub returns-clause-datum : goal.returns-clause-datum
 returns-clause-datum c = line_datum

@@ -1,8 +1,8 @@
-use Rattle.vme_master.proofs.lemmas.Locals.{board_fits, turn_fits}
+use Rattle.vme_master.proofs.lemmas.Locals.{board_fits, arbiter_fits}
 use Rattle.vme_master.proofs.laws.replies_fit.Goals as goal
 
 pub returns-clause-board : goal.returns-clause-board
 returns-clause-board c = board_fits
 
 pub returns-clause-bus : goal.returns-clause-bus
-returns-clause-bus c = turn_fits
+returns-clause-bus c = arbiter_fits

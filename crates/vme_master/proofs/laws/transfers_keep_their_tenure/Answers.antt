@@ -1,11 +1,11 @@
-use Rattle.vme_master.proofs.lemmas.Tenures.{turns_are_own, turns_go_by, holds_for_data, ends_freed}
+use Rattle.vme_master.proofs.lemmas.Tenures.{commands_are_own, commands_are_allowed, holds_for_data, ends_freed}
 use Rattle.vme_master.proofs.laws.transfers_keep_their_tenure.Goals as goal
 
 pub returns-clause-own : goal.returns-clause-own
-returns-clause-own c = turns_are_own
+returns-clause-own c = commands_are_own
 
 pub returns-clause-turns : goal.returns-clause-turns
-returns-clause-turns c = turns_go_by
+returns-clause-turns c = commands_are_allowed
 
 pub returns-clause-holds : goal.returns-clause-holds
 returns-clause-holds c = holds_for_data

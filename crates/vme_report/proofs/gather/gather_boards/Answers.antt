@@ -1,10 +1,10 @@
--- One more board is reported, or a prefix of it.
+-- One more board is gathered; if the sink fails, a prefix of the part was written.
 use Rattle.std.proofs.Common.{◌<◌, ◌+◌, ◌++◌, length, drop, arith, rules}
 use Rattle.std.specs.List.{flat_map}
 use Rattle.vme_io.specs.Prefixes.{AppendsPrefix}
 use Rattle.vme_report.specs.Reports.{part_text}
 use Rattle.vme_io.proofs.lemmas.Gathering.{so_far_more, so_far_fails}
-use Rattle.vme_report.proofs.Wholes.{item_first}
+use Rattle.vme_report.proofs.FirstParts.{item_first}
 use Rattle.vme_report.proofs.gather.gather_boards.Goals as goal
 
 pub returns-in_err-gather_board-clause-gathers : goal.returns-in_err-gather_board-clause-gathers

@@ -1,12 +1,12 @@
 use Rattle.std.proofs.Common.{refl}
-use Rattle.vme_shared.proofs.lemmas.Tenures.{begin_reported, turns_go_by, holds_for_data, turn_reported, datum_reported, ends_well}
+use Rattle.vme_shared.proofs.lemmas.Tenures.{begin_reported, commands_are_allowed, holds_for_data, turn_reported, datum_reported, ends_well}
 use Rattle.vme_shared.proofs.laws.shared_tasks_keep_their_tenure.Goals as goal
 
 pub returns-clause-begin : goal.returns-clause-begin
 returns-clause-begin c = begin_reported
 
 pub returns-clause-turns : goal.returns-clause-turns
-returns-clause-turns c = turns_go_by
+returns-clause-turns c = commands_are_allowed
 
 pub returns-clause-holds : goal.returns-clause-holds
 returns-clause-holds c = holds_for_data

@@ -1,6 +1,6 @@
 use Rattle.std.proofs.Common.{sym, ◌∙◌, arith, eq-eqb}
 use Rattle.std.proofs.lemmas.Bool.{ne_eqb}
-use Rattle.vme_stepper.proofs.Places.{place_is, place_next, place_over}
+use Rattle.vme_stepper.proofs.lemmas.Places.{place_is, place_next, place_over}
 use Rattle.vme_stepper.proofs.stepper.board_in_slot.Goals as goal
 
 pub loop-board-init : goal.loop-board-init

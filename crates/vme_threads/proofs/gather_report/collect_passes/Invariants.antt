@@ -9,13 +9,13 @@ invariant-loop-ran l = record {
   passes_len : vec_len l.passes + into_iter_len l.ran-iterator ≡ vec_len l.fn.rans;
   passes_capacity : vec_len l.fn.rans ≤ vec_capacity l.passes;
   passes :
-      l.passes.items ++ map (λ (r : Ran). r.pass_set.pass) (into_iter_items l.ran-iterator)
-      ≡ map (λ (r : Ran). r.pass_set.pass) l.fn.rans.items;
+      l.passes.items ++ map (λ (r : Ran). r.processor_pass.pass) (into_iter_items l.ran-iterator)
+      ≡ map (λ (r : Ran). r.processor_pass.pass) l.fn.rans.items;
   counts_len : vec_len l.counts + into_iter_len l.ran-iterator ≡ vec_len l.fn.rans;
   counts_capacity : vec_len l.fn.rans ≤ vec_capacity l.counts;
   counts :
-      l.counts.items ++ map (λ (r : Ran). r.pass_set.made) (into_iter_items l.ran-iterator)
-      ≡ map (λ (r : Ran). r.pass_set.made) l.fn.rans.items;
+      l.counts.items ++ map (λ (r : Ran). r.processor_pass.made) (into_iter_items l.ran-iterator)
+      ≡ map (λ (r : Ran). r.processor_pass.made) l.fn.rans.items;
   lines_len : vec_len l.lines + into_iter_len l.ran-iterator ≡ vec_len l.fn.rans;
   lines_capacity : vec_len l.fn.rans ≤ vec_capacity l.lines;
   lines :

@@ -83,7 +83,7 @@ report_boards-requires-clause-made c =
       arith,
       c.collect_passes.new.counts.ok.0,
       ap length c.collect_passes.ensures.counts,
-      map_length (λ (r : Ran). r.pass_set.made) c.args.rans.items,
+      map_length (λ (r : Ran). r.processor_pass.made) c.args.rans.items,
       can.count,
     )
     in

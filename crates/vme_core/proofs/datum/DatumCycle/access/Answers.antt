@@ -9,5 +9,5 @@ pub returns : goal.returns
 returns c =
     let d = c.self.inside in
     let kept = c.self.invariant in
-    let asked = c.access_of.ensures ∙ ap (λ request. datum_command request d.i d.at) c.request.ensures.value in
+    let asked = c.of_datum.ensures ∙ ap (λ request. datum_command request d.i d.at) c.request.ensures.value in
     ap command_given (sym c.self.view_is) ∙ own_command d.plan d.i d.at kept.0 kept.1 kept.2 ∙ ap Some (sym asked)

@@ -4,7 +4,7 @@ use Rattle.vme_lanes.specs.Rows.{row_of}
 use Rattle.vme_lanes.proofs.lemmas.Tables.{own_sensed}
 use Rattle.vme_cycle.specs.Requests.{addr_of, address_of}
 use Rattle.vme_cycle.specs.SignalLines.{len_with, row_len, strobes_at}
-use Rattle.vme_cycle.proofs.Blocks.{same_lword, counts_on, len_of_strobes, first_shown, held_by_itself}
+use Rattle.vme_cycle.proofs.Blocks.{same_lword, sensed_own, len_of_strobes, first_shown, held_by_itself}
 use Rattle.vme_cycle.proofs.plan.Plan.signals.Goals as goal
 
 pub shown_location-location-requires-clause-lword : goal.shown_location-location-requires-clause-lword
@@ -17,7 +17,7 @@ pub returns-clause-sensed : goal.returns-clause-sensed
 returns-clause-sensed c =
     let t = c.args.self.now in
     let own = c.location-2 in
-    counts_on t.am t.request c.args.i c.location.result own.result c.new.result c.request-request.ensures.lawful c.requires
+    sensed_own t.am t.request c.args.i c.location.result own.result c.new.result c.request-request.ensures.lawful c.requires
     c.location.ensures.found own.ensures.found (search rules) (search rules)
     ∙ sym own.ensures.found
 
@@ -33,7 +33,7 @@ returns-clause-len c =
     let t = c.args.self.now in
     let own = c.location-2 in
     let shown = c.shown_location-location in
-    let at = counts_on t.am t.request c.args.i c.location.result own.result c.new.result c.request-request.ensures.lawful
+    let at = sensed_own t.am t.request c.args.i c.location.result own.result c.new.result c.request-request.ensures.lawful
     c.requires c.location.ensures.found own.ensures.found (search rules) (search rules) in
     let wide : c.new.result.am.wide ≡ t.am.wide = search rules in
     let strobes : c.new.result.strobes ≡ (row_of shown.result).strobes = search rules in

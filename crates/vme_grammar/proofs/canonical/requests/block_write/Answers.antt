@@ -1,4 +1,4 @@
--- The bytes of a short block are those that were read.
+-- The bytes of the block are those that the last word spells.
 use Rattle.vme_grammar.proofs.Forms.{block_write_asked}
 use Rattle.vme_grammar.proofs.canonical.requests.block_write.Goals as goal
 

@@ -6,7 +6,7 @@ use Rattle.vme_line_task.specs.Machine.{attempts_advance, attempts_to_do}
 use Rattle.vme_line_task.proofs.lemmas.Calls.{transfer_advances}
 use Rattle.vme_line_task.proofs.attempt.Attempts.advance_on.Goals as goal
 
--- a transfer or a command makes its own call
+-- a transfer or a local command makes its next call on the core
 pub returns-in-Transfer : goal.returns-in-Transfer
 returns-in-Transfer c =
     let left = c.args.self.now.left in

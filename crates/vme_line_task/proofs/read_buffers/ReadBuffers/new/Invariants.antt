@@ -6,7 +6,7 @@ use Rattle.vme_line_task.proofs.read_buffers.ReadBuffers.new.Given as goal
 -- the buffers of the lines so far, and capacity for the others
 abbrev pub invariant-loop-line : goal.invariant-loop-line
 invariant-loop-line l = record {
-  buffers : AreKept l.take_memory.items l.long.items (buffers_of (take l.line l.script));
-  count : vec_len l.take_memory ≡ l.line;
-  place : length l.script ≤ vec_capacity l.take_memory;
+  buffers : AreKept l.are_long.items l.long.items (buffers_of (take l.line l.script));
+  count : vec_len l.are_long ≡ l.line;
+  place : length l.script ≤ vec_capacity l.are_long;
 }

@@ -3,7 +3,7 @@ use Rattle.vme_master.specs.Machine.{to_do, advance}
 use Rattle.vme_master.proofs.lemmas.Stands.{next_by_the_table}
 use Rattle.vme_master.proofs.task.Task.next.Goals as goal
 
--- what the task does next is what the table says
+-- what the task does next is what the table states
 pub returns-clause-table : goal.returns-clause-table
 returns-clause-table c =
     λ job before same. ap to_do c.advance.ensures.task

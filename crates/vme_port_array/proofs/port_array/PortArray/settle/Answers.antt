@@ -6,6 +6,6 @@ use Rattle.vme_port_array.proofs.port_array.PortArray.settle.Goals as goal
 
 pub returns-clause-settled : goal.returns-clause-settled
 returns-clause-settled g c =
-    let reported = subst (λ accounts. Closes g.O.Object.step (opening c.args.self) (passes_of c.args.self) accounts c.close.new.homes.items)
+    let outcome = subst (λ accounts. Closes g.O.Object.step (opening c.args.self) (passes_of c.args.self) accounts c.close.new.homes.items)
     (ap (λ m. m.0.accounts) c.gather-seat.ensures.all) c.close.ensures in
-    settled _ _ _ _ _ reported
+    settled _ _ _ _ _ outcome

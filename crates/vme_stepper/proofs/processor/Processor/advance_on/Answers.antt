@@ -13,11 +13,11 @@ use Rattle.vme_stepper.proofs.Calls.{made_by}
 use Rattle.vme_stepper.proofs.Turning.{turn_goes_on, turn_ends}
 use Rattle.vme_stepper.proofs.processor.Processor.advance_on.Goals as goal
 
--- a processor by its fields
+-- the processor with these fields
 abbrev processor_with : List ScriptLine → List (ℕ × LineReply) → ℕ → Option LineTask → ProcessorView
 processor_with script lines ended at = record { script = script; lines = lines; ended = ended; at = at }
 
--- the line makes another call next
+-- a task that has not ended has a call to make
 pub invariant_of-self-else-is_finished : goal.invariant_of-self-else-is_finished
 invariant_of-self-else-is_finished c =
     let sound = rw c.in-Some.is at c.self.invariant.work in

@@ -5,7 +5,8 @@ use Rattle.vme_line_task.specs.Scripts.{lines_at}
 use Rattle.vme_line_task.specs.Machine.{line_to_do}
 use Rattle.vme_core.proofs.lemmas.NextSteps.{at_work, its_call, ends_so}
 use Rattle.vme_stepper.proofs.Turning.{turn_begins, turn_passes}
-use Rattle.vme_stepper.proofs.Drawing.{draws}
+use Rattle.vme_stepper.proofs.Beginning.{begun_begins, begun_passes}
+use Rattle.vme_stepper.proofs.NextBuffers.{draws}
 use Rattle.vme_stepper.proofs.processor.Processor.seek.Goals as goal
 
 pub start-task-requires-clause-none : goal.start-task-requires-clause-none
@@ -43,6 +44,16 @@ returns-then-not-is_finished-clause-turn c =
     c.loop-self.self-inside.ended c.start-task.result c.advance.new.self next.0 within c.start-task.ensures.line c.advance.ensures.task next.1
     ∙ c.loop-self.invariant.turn machine
 
+pub returns-then-not-is_finished-clause-begun : goal.returns-then-not-is_finished-clause-begun
+returns-then-not-is_finished-clause-begun c =
+    let within : c.loop-self.self-inside.ended < length (lines_at c.args.config.now c.args.board)
+    = omega (arith, c.loop-self-test.true, c.len.ensures, c.loop-self.invariant.lines, c.loop-self.self-inside.lines.ok.0) in
+    let on : c.is_finished.result ≡ false = search rules in
+    let next = its_call (line_to_do c.advance.new.self) (at_work (line_to_do c.advance.new.self) c.advance.ensures.begun (sym c.is_finished.ensures ∙ on)) in
+    begun_begins c.args.config.now c.args.board c.loop-self.self-inside.script.now c.loop-self.self-inside.lines.items
+    c.loop-self.self-inside.ended c.start-task.result c.advance.new.self next.0 within c.start-task.ensures.line c.advance.ensures.task next.1
+    ∙ c.loop-self.invariant.begun
+
 pub loop-self-preserved : goal.loop-self-preserved
 loop-self-preserved c =
     let s = c.loop-self.self-inside in
@@ -66,4 +77,10 @@ loop-self-preserved c =
           c.advance.new.self answer within c.start-task.ensures.line c.advance.ensures.task
           (ends_so (line_to_do c.advance.new.self) answer (rw c.unwrap-answer.ensures at c.into_reply.ensures))
           ∙ c.loop-self.invariant.turn machine);
+      begun =
+          rw (lines, put)
+          (begun_passes c.args.config.now c.args.board s.script.now s.lines.items s.ended c.start-task.result
+          c.advance.new.self answer within c.start-task.ensures.line c.advance.ensures.task
+          (ends_so (line_to_do c.advance.new.self) answer (rw c.unwrap-answer.ensures at c.into_reply.ensures))
+          ∙ c.loop-self.invariant.begun);
     }

@@ -3,7 +3,7 @@ use Rattle.std.proofs.lemmas.List.{take_more, length-take}
 use Rattle.vme_stepper.specs.Turns.{state_after}
 use Rattle.vme_stepper.specs.Steppers.{stepper_of, IsStepperOf}
 use Rattle.vme_stepper.proofs.SystemStates.{system_none}
-use Rattle.vme_stepper.proofs.Runs.{turn_more, few_steps}
+use Rattle.vme_stepper.proofs.lemmas.Runs.{turn_more, few_steps}
 use Rattle.vme_stepper.proofs.stepper.Stepper.run.Goals as goal
 use Rattle.vme_stepper.proofs.stepper.Stepper.run.Goals.{in-Some, in_default}
 

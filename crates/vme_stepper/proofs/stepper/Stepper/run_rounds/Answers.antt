@@ -5,8 +5,8 @@ use Rattle.vme_script.specs.declared.board.BoardConfig.{BoardConfig}
 use Rattle.vme_stepper.specs.Turns.{state_after}
 use Rattle.vme_stepper.specs.Schedules.{schedule_turns, round_turns, file_turns}
 use Rattle.vme_stepper.specs.Steppers.{stepper_of}
-use Rattle.vme_stepper.proofs.Places.{own_place}
-use Rattle.vme_stepper.proofs.Runs.{turn_more, few_steps, round_more, rounds_few}
+use Rattle.vme_stepper.proofs.lemmas.Places.{own_place}
+use Rattle.vme_stepper.proofs.lemmas.Runs.{turn_more, few_steps, round_more, rounds_few}
 use Rattle.vme_stepper.proofs.stepper.Stepper.run_rounds.Goals as goal
 
 -- the slots of boards

@@ -4,7 +4,7 @@ use Rattle.vme_stepper.specs.Schedules.{schedule_turns, round_turns}
 use Rattle.vme_stepper.specs.Steppers.{stepper_of, IsStepperOf}
 use Rattle.vme_stepper.proofs.stepper.Stepper.run_rounds.Given as goal
 
--- the rounds so far were made
+-- the stepper is that of the state after the schedule and the rounds so far
 abbrev pub invariant-loop-round : goal.invariant-loop-round
 invariant-loop-round l = record {
   run : l.self ≡ stepper_of l.config (state_after l.config
@@ -12,7 +12,8 @@ invariant-loop-round l = record {
   sound : IsStepperOf l.config l.self;
 }
 
--- the rounds so far and the turns of the first slots in the next were made
+-- the stepper is that of the state after the schedule, the rounds so far and the turns of the first slots in the next
+-- one
 abbrev pub invariant-loop-board : goal.invariant-loop-board
 invariant-loop-board l = record {
   run : l.self ≡ stepper_of l.config (state_after l.config

@@ -4,7 +4,7 @@ use Rattle.vme_stepper.specs.Turns.{state_after}
 use Rattle.vme_stepper.specs.Schedules.{schedule_turns}
 use Rattle.vme_stepper.specs.Steppers.{stepper_of, IsStepperOf}
 use Rattle.vme_stepper.proofs.SystemStates.{system_none}
-use Rattle.vme_stepper.proofs.Runs.{turn_more, few_steps, none_more, schedule_more, schedule_few}
+use Rattle.vme_stepper.proofs.lemmas.Runs.{turn_more, few_steps, none_more, schedule_more, schedule_few}
 use Rattle.vme_stepper.proofs.stepper.Stepper.run_schedule.Goals as goal
 use Rattle.vme_stepper.proofs.stepper.Stepper.run_schedule.Goals.{in-Some+else-loop-turn-test, in_default}
 

@@ -4,7 +4,7 @@ use Rattle.vme_stepper.specs.Schedules.{schedule_turns}
 use Rattle.vme_stepper.specs.Steppers.{stepper_of, IsStepperOf}
 use Rattle.vme_stepper.proofs.stepper.Stepper.run_schedule.Given as goal
 
--- the turns of the pairs so far were made
+-- the stepper is that of the state after the turns of the pairs so far
 abbrev pub invariant-loop-turns : goal.invariant-loop-turns
 invariant-loop-turns l = record {
   run : l.self ≡ stepper_of l.config (state_after l.config (schedule_turns (take l.turns-index l.config.schedule)));
@@ -12,7 +12,7 @@ invariant-loop-turns l = record {
   pairs : l.turns-items ≡ l.config.schedule;
 }
 
--- the turns of the pairs so far and some of the next pair were made
+-- the stepper is that of the state after the turns of the pairs so far and some of the next pair
 abbrev pub invariant-loop-turn : goal.invariant-loop-turn
 invariant-loop-turn l = record {
   run : l.self ≡ stepper_of l.config (state_after l.config

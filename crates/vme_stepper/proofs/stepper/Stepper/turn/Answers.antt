@@ -1,4 +1,4 @@
-use Rattle.vme_stepper.proofs.Driving.{processor_sound, turned, turned_sound}
+use Rattle.vme_stepper.proofs.StepperTurns.{processor_sound, turned, turned_sound}
 use Rattle.vme_stepper.proofs.stepper.Stepper.turn.Goals as goal
 
 pub turn-requires-clause-processor : goal.turn-requires-clause-processor

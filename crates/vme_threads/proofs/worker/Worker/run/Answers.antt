@@ -2,7 +2,7 @@ use Rattle.std.proofs.Common.{◌≡◌, ◌+◌, List, length, map, Some, ap, s
 use Rattle.std.specs.List.{slice_get}
 use Rattle.vme_script.specs.declared.script.ScriptLine.{ScriptLine}
 use Rattle.vme_line_task.specs.Scripts.{script_at}
-use Rattle.vme_threads.proofs.PassSets.{fits_first, fits_after}
+use Rattle.vme_threads.proofs.ProcessorPasses.{fits_first, fits_after}
 use Rattle.vme_threads.proofs.Places.{nil_of, map_length}
 use Rattle.vme_threads.proofs.Runs.{IsScriptInProgress, script_is, script_start, script_more, some_buffer, buffer_taken, buffer_serves, script_end}
 use Rattle.vme_threads.proofs.worker.Worker.run.Goals as goal
@@ -18,19 +18,19 @@ loop-line-init g c =
           omega (
             arith,
             c.requires.worker.lines_capacity,
-            map_length (λ (one : ScriptLine). one.line) (script_at config w.pass_set.who),
+            map_length (λ (one : ScriptLine). one.line) (script_at config w.processor_pass.who),
           );
       progress =
-          script_start config w.pass_set w.lines.items
+          script_start config w.processor_pass w.lines.items
           (nil_of w.lines.items (omega (arith, c.requires.worker.lines, w.lines.ok.0)));
     }
 
 pub number-number-requires : goal.number-number-requires
 number-number-requires g c =
     let config = c.args.config.now in
-    let who = c.args.self.pass_set.who in
+    let who = c.args.self.processor_pass.who in
     let script =
-    script_is config who c.loop-line.pass_set.who c.script.result.now c.loop-line.invariant.progress.made.who c.script.ensures in
+    script_is config who c.loop-line.processor_pass.who c.script.result.now c.loop-line.invariant.progress.made.who c.script.ensures in
     omega (
       arith,
       c.loop-line-test.true,
@@ -42,13 +42,13 @@ number-number-requires g c =
 -- the next buffer is taken
 pub take-buffer-requires : goal.take-buffer-requires
 take-buffer-requires g c =
-    some_buffer c.args.config.now c.args.self.pass_set.who c.loop-line.line c.loop-line.buffers
+    some_buffer c.args.config.now c.args.self.processor_pass.who c.loop-line.line c.loop-line.buffers
     (omega (arith, c.loop-line-test.true, c.line_count-line-end.ensures))
     c.loop-line.invariant.buffers
 
 pub run_line-requires-clause-none : goal.run_line-requires-clause-none
 run_line-requires-clause-none g c =
-    (buffer_taken c.args.config.now c.args.self.pass_set.who c.loop-line.line c.loop-line.buffers c.take-buffer.new.self
+    (buffer_taken c.args.config.now c.args.self.processor_pass.who c.loop-line.line c.loop-line.buffers c.take-buffer.new.self
     c.take-buffer.result
     (omega (arith, c.loop-line-test.true, c.line_count-line-end.ensures)) c.loop-line.invariant.buffers
     c.take-buffer.ensures).none
@@ -56,9 +56,9 @@ run_line-requires-clause-none g c =
 pub run_line-requires-clause-capacity : goal.run_line-requires-clause-capacity
 run_line-requires-clause-capacity g c =
     let config = c.args.config.now in
-    let who = c.args.self.pass_set.who in
+    let who = c.args.self.processor_pass.who in
     let n = c.loop-line.line in
-    buffer_serves config who c.loop-line.pass_set.who n c.take-buffer.result c.take-buffer.new.self
+    buffer_serves config who c.loop-line.processor_pass.who n c.take-buffer.result c.take-buffer.new.self
     (buffer_taken config who n c.loop-line.buffers c.take-buffer.new.self c.take-buffer.result
     (omega (arith, c.loop-line-test.true, c.line_count-line-end.ensures))
     c.loop-line.invariant.buffers c.take-buffer.ensures)
@@ -68,17 +68,17 @@ pub run_line-requires-clause-fits : goal.run_line-requires-clause-fits
 run_line-requires-clause-fits g c =
     let w = c.args.self in
     let ports = c.args.ports.now in
-    fits_after ports _ w.pass_set _ c.loop-line.invariant.progress.made
-    (fits_first c.args.config.now ports w.pass_set.who w c.requires.built c.requires.worker)
+    fits_after ports _ w.processor_pass _ c.loop-line.invariant.progress.made
+    (fits_first c.args.config.now ports w.processor_pass.who w c.requires.built c.requires.worker)
 
 -- one more line has its reply
 pub loop-line-preserved : goal.loop-line-preserved
 loop-line-preserved g c =
     let config = c.args.config.now in
-    let d = c.args.self.pass_set in
+    let d = c.args.self.processor_pass in
     let progress = c.loop-line.invariant.progress in
     let number = c.number-number.result in
-    let script = script_is config d.who c.loop-line.pass_set.who c.script.result.now progress.made.who c.script.ensures in
+    let script = script_is config d.who c.loop-line.processor_pass.who c.script.result.now progress.made.who c.script.ensures in
     let numbered =
     subst (λ (lines : List ScriptLine). slice_get (map (λ (one : ScriptLine). one.number) lines) c.loop-line.line ≡ Some number)
     (sym script)
@@ -93,7 +93,7 @@ loop-line-preserved g c =
           c.take-buffer.ensures).after;
       progress =
           subst (IsScriptInProgress config (c.loop-line.line + 1) d c.run_line.new.self) (sym c.push_reserved.ensures.items)
-          (script_more config c.loop-line.line d c.loop-line.pass_set c.run_line.new.self c.loop-line.lines.items number
+          (script_more config c.loop-line.line d c.loop-line.processor_pass c.run_line.new.self c.loop-line.lines.items number
           c.in-Ok.answer progress c.in-Ok.ensures numbered);
     }
 

@@ -8,7 +8,7 @@ use Rattle.vme_threads.proofs.worker.Worker.run.Given as goal
 abbrev pub invariant-loop-line : goal.invariant-loop-line
 invariant-loop-line g l = record {
   count : vec_len l.lines ≡ l.line;
-  capacity : length (lines_at l.config l.fn.self.pass_set.who) ≤ vec_capacity l.lines;
-  buffers : l.buffers ≡ drop l.line (buffers_of (script_at l.config l.fn.self.pass_set.who));
-  progress : IsScriptInProgress l.config l.line l.fn.self.pass_set l.pass_set l.lines.items;
+  capacity : length (lines_at l.config l.fn.self.processor_pass.who) ≤ vec_capacity l.lines;
+  buffers : l.buffers ≡ drop l.line (buffers_of (script_at l.config l.fn.self.processor_pass.who));
+  progress : IsScriptInProgress l.config l.line l.fn.self.processor_pass l.processor_pass l.lines.items;
 }

@@ -1,0 +1,197 @@
+//! `bendrika outcomes`.
+use crate::fault::Fault;
+use crate::status::Status;
+use clap::{Arg, ArgAction, ArgMatches, Command, value_parser};
+use std::alloc::{AllocError, Global};
+use std::fs::File;
+use std::io;
+use vme_check::{Form, InputReader, check_engine, shown_name, summary};
+use vme_engines::{FILE_LIMIT, ProgramFault, read_input};
+use vme_io::{Io, SliceSource};
+use vme_outcome_listing::{Asked, Condition, Kind, OutcomesFault, outcomes_engine};
+
+/// The name of standard input among the words.
+const STANDARD_INPUT: &str = "-";
+
+/// The name under which faults of standard input are reported.
+const STANDARD_INPUT_NAME: &str = "<stdin>";
+
+/// The greatest number of states if the words do not say another.
+const LIMIT: &str = "1000000";
+
+/// The greatest number of states that the words may say.
+const MOST_STATES: i64 = 100_000_000;
+
+/// Returns the words of `bendrika outcomes`.
+pub(crate) fn outcomes<'a>(alloc: Global) -> Result<Command<'a>, AllocError> {
+    let file = Arg::new(alloc, "FILE")
+        .value_name("FILE")
+        .required(true)
+        .help("A configuration file; - is standard input");
+    let quiet = Arg::new(alloc, "quiet")
+        .short('q')
+        .long("quiet")
+        .action(ArgAction::SetTrue)
+        .help("Print no outcome, but the conditions and the number of outcomes");
+    let limit = Arg::new(alloc, "limit")
+        .long("limit")
+        .value_name("N")
+        .action(ArgAction::Set)
+        .value_parser(value_parser!(usize).range(1..=MOST_STATES))
+        .default_value(LIMIT)
+        .help("Explore at most N states");
+    Command::new(alloc, "outcomes")
+        .about("List every outcome that some order of turns gives, each with a schedule")
+        .after_help(
+            "Status: 0 listed, 1 a condition fails, 2 wrong words or no configuration, 3 a fault or too many states",
+        )
+        .arg(file)?
+        .arg(condition(
+            alloc,
+            "never",
+            "Fail if some outcome has these lines, separated by ;",
+        ))?
+        .arg(condition(
+            alloc,
+            "always",
+            "Fail if some outcome lacks one of these lines",
+        ))?
+        .arg(quiet)?
+        .arg(limit)
+}
+
+/// Returns an option that states a condition.
+fn condition<'a>(alloc: Global, name: &'a str, help: &'a str) -> Arg<'a> {
+    Arg::new(alloc, name)
+        .long(name)
+        .value_name("TEXT")
+        .action(ArgAction::Append)
+        .help(help)
+}
+
+/// The conditions that the words state, each with its text.
+#[derive(Drop)]
+struct Stated<'a> {
+    conditions: Vec<Condition<'a>>,
+    texts: Vec<&'a str>,
+}
+
+/// Returns the conditions that the words state: first those of `--never`.
+fn conditions_of<'a>(alloc: Global, words: &'a ArgMatches<'_>) -> Result<Stated<'a>, AllocError> {
+    let mut conditions = Vec::new(alloc);
+    let mut texts = Vec::new(alloc);
+    for (name, kind) in [("never", Kind::Never), ("always", Kind::Always)] {
+        if let Some(values) = words.get_strs(name) {
+            for text in values {
+                conditions.push(Condition::new(alloc, kind, text)?)?;
+                texts.push(*text)?;
+            }
+        }
+    }
+    Ok(Stated { conditions, texts })
+}
+
+/// Lists the outcomes of the configuration file that the words name.
+pub(crate) fn listed(rt: &HostRuntime, words: &ArgMatches<'_>) -> Result<Status, Fault> {
+    let path = words.get_str("FILE").unwrap_or(STANDARD_INPUT);
+    let stated = conditions_of(rt.alloc(), words)?;
+    let asked = Asked {
+        limit: words.get_one("limit").unwrap_or(1),
+        quiet: words.get_flag("quiet"),
+        conditions: stated.conditions.as_slice(),
+    };
+    if path == STANDARD_INPUT {
+        return list_input(
+            rt,
+            STANDARD_INPUT_NAME,
+            &asked,
+            stated.texts.as_slice(),
+            rt.reader(),
+        );
+    }
+    match File::open(rt, path) {
+        Ok(file) => list_input(rt, path, &asked, stated.texts.as_slice(), file),
+        Err(error) if error.kind() == io::ErrorKind::OutOfMemory => Err(Fault::Memory),
+        Err(error) => report(rt, path, &error),
+    }
+}
+
+/// Lists the outcomes of an opened input.
+fn list_input<T: io::Read + Drop>(
+    rt: &HostRuntime,
+    name: &str,
+    asked: &Asked<'_>,
+    texts: &[&str],
+    input: T,
+) -> Result<Status, Fault> {
+    let mut reader = InputReader::new(input);
+    match read_input(rt.alloc(), &mut reader, FILE_LIMIT) {
+        Ok(file) => list_file(rt, name, asked, texts, file.as_slice()),
+        Err(ProgramFault::Memory) => Err(Fault::Memory),
+        Err(fault) => match reader.failure() {
+            Some(error) => report(rt, name, error),
+            None => report(rt, name, &fault),
+        },
+    }
+}
+
+/// Lists the outcomes of the bytes of a file.
+fn list_file(
+    rt: &HostRuntime,
+    name: &str,
+    asked: &Asked<'_>,
+    texts: &[&str],
+    file: &[u8],
+) -> Result<Status, Fault> {
+    let mut source = SliceSource::new(file, usize::MAX, usize::MAX);
+    let mut writer = Io::new(io::writer(rt));
+    match outcomes_engine(rt.alloc(), asked, &mut source, &mut writer) {
+        Ok(true) => Ok(Status::Done),
+        Ok(false) => Ok(Status::Errors),
+        Err(OutcomesFault::Program(ProgramFault::Config(_))) => refuse(rt, name, file),
+        Err(OutcomesFault::Program(ProgramFault::Write)) => Err(Fault::Write),
+        Err(OutcomesFault::Program(_)) => Err(Fault::Memory),
+        Err(OutcomesFault::Condition(i)) => {
+            let text = texts.get(i).copied().unwrap_or("");
+            let name = shown_name(rt.alloc(), name)?;
+            let _ = eprintln!(rt; "bendrika: `{text}` names no line of {name}");
+            Ok(Status::WrongWords)
+        }
+        Err(OutcomesFault::Limit) => {
+            let limit = asked.limit;
+            let _ = eprintln!(rt;
+                "bendrika: more than {limit} states: set `tries = 2` in the file, write fewer lines, or raise --limit"
+            );
+            Ok(Status::Fault)
+        }
+    }
+}
+
+/// Reports the findings of a file that is no configuration, on standard error.
+fn refuse(rt: &HostRuntime, name: &str, file: &[u8]) -> Result<Status, Fault> {
+    let form = Form {
+        json: false,
+        quiet: false,
+        no_warnings: false,
+        limit: 0,
+    };
+    let mut source = SliceSource::new(file, usize::MAX, usize::MAX);
+    let mut writer = Io::new(rt.stderr());
+    match check_engine(rt.alloc(), name, &form, &mut source, &mut writer) {
+        Ok(end) => {
+            let line = summary(rt.alloc(), end.counts, &form)?;
+            let _ = eprint!(rt; "{line}");
+            Ok(Status::WrongWords)
+        }
+        Err(ProgramFault::Memory) => Err(Fault::Memory),
+        Err(_) => Ok(Status::WrongWords),
+    }
+}
+
+/// Reports why an input cannot be read, as one line on standard error. A failure of that write is
+/// ignored.
+fn report(rt: &HostRuntime, name: &str, why: &impl std::fmt::Display) -> Result<Status, Fault> {
+    let name = shown_name(rt.alloc(), name)?;
+    let _ = eprintln!(rt; "bendrika: {name}: {why}");
+    Ok(Status::Fault)
+}

@@ -1,0 +1,3 @@
+pub mod Activities
+pub mod Grants
+pub mod Observations

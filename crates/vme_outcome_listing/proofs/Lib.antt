@@ -1,0 +1,5 @@
+pub mod Texts
+pub mod Listings
+pub mod Outputs
+pub mod Written
+pub mod Consequences

@@ -1,0 +1,7 @@
+pub mod Texts
+pub mod ListedTexts
+pub mod Schedules
+pub mod Conditions
+pub mod Outputs
+pub mod EngineTexts
+pub mod Ends

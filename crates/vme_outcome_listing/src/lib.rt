@@ -1,0 +1,25 @@
+//! The engine of `bendrika outcomes`: every outcome that some order of turns gives, each once and
+//! with a schedule that gives it.
+//!
+//! [`outcomes_engine`] reads a configuration file from a source of bytes, and writes to a sink.
+#![tactic(auto)]
+
+mod asked;
+mod condition;
+mod engine;
+mod fault;
+mod laws;
+mod listing;
+mod names;
+mod paragraph;
+mod print;
+#[cfg(test)]
+mod tests;
+mod text;
+mod write;
+
+pub use asked::Asked;
+pub use condition::{Condition, Kind};
+pub use engine::outcomes_engine;
+pub use fault::OutcomesFault;
+pub use laws::{conditions_hold_of_each_outcome, run_texts_have_a_listed_text};

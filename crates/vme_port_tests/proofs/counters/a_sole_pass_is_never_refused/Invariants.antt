@@ -1,6 +1,0 @@
-use Rattle.vme_port.specs.Ports.{IsPassOf}
-use Rattle.vme_port_tests.proofs.counters.a_sole_pass_is_never_refused.Given as goal
-
--- the pass stays a pass of the port
-abbrev pub invariant-loop-i : goal.invariant-loop-i
-invariant-loop-i g l = IsPassOf l.port l.pass

@@ -1,0 +1,13 @@
+pub mod Places
+pub mod Mailboxes
+pub mod Counts
+pub mod Calling
+pub mod Serving
+pub mod Reading
+pub mod Answering
+pub mod Running
+pub mod Printing
+pub mod Opening
+pub mod Making
+pub mod Starting
+pub mod Asking

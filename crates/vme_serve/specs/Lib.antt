@@ -1,0 +1,5 @@
+pub mod Requests
+pub mod Calls
+pub mod Services
+pub mod Sessions
+pub mod Runs

@@ -1,5 +1,0 @@
-use Rattle.vme_threads.proofs.Gathering.{one_order_of}
-use Rattle.vme_threads.proofs.laws.what_is_gathered_is_one_order.Goals as goal
-
-pub returns : goal.returns
-returns c = one_order_of
