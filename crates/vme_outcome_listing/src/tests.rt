@@ -1,4 +1,6 @@
 //! Tests with a file whose outcomes were found by hand and by `vme step`.
+ghost use Rattle.std.specs.Prelude.{◌≡◌, false};
+
 use crate::{Asked, Condition, Kind, OutcomesFault, outcomes_engine};
 use std::alloc::{AllocError, Global};
 use std::test::Fail;
@@ -61,7 +63,9 @@ fn list(
     limit: usize,
     quiet: bool,
     sink: &mut RoomSink,
-) -> Result<Result<bool, OutcomesFault>, AllocError> {
+) -> Result<Result<bool, OutcomesFault>, AllocError>
+    requires { sink.old.marked ≡ false }
+{
     let conditions = [
         Condition::new(alloc, Kind::Never, "1:2 read 00; 2:2 read 00")?,
         Condition::new(alloc, Kind::Always, " 2:2 read 01 ")?,
