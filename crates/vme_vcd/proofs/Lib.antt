@@ -1,0 +1,3 @@
+pub mod Appends
+pub mod Digits
+pub mod Ranges
