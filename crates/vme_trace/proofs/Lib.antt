@@ -1,0 +1,2 @@
+pub mod TurnsLeft
+pub mod Tracing
