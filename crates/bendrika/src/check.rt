@@ -1,20 +1,13 @@
 //! `bendrika check` and `bendrika cycles`.
 use crate::fault::{Fault, printed};
+use crate::input::{STANDARD_INPUT, STANDARD_INPUT_NAME, report};
 use crate::status::Status;
 use clap::ArgMatches;
 use std::fs::File;
 use std::io;
-use vme_check::{
-    CheckEnd, Counts, Form, InputReader, check_engine, request_check_engine, shown_name, summary,
-};
+use vme_check::{CheckEnd, Counts, Form, InputReader, check_engine, request_check_engine, summary};
 use vme_engines::ProgramFault;
 use vme_io::{Io, Source};
-
-/// The name of standard input among the words.
-const STANDARD_INPUT: &str = "-";
-
-/// The name under which findings of standard input are reported.
-const STANDARD_INPUT_NAME: &str = "<stdin>";
 
 /// What was found in all inputs so far.
 #[derive(Drop)]
@@ -35,7 +28,7 @@ enum Engine {
 
 /// Checks the configuration files that the words name.
 pub(crate) fn checked(rt: &HostRuntime, words: &ArgMatches<'_>) -> Result<Status, Fault> {
-    let form = form_of(words, words.get_flag("no-warnings"));
+    let form = form_of(words);
     let mut found = Found {
         counts: Counts::NONE,
         has_errors: false,
@@ -51,7 +44,7 @@ pub(crate) fn checked(rt: &HostRuntime, words: &ArgMatches<'_>) -> Result<Status
 
 /// Checks the request lines of a file or of standard input.
 pub(crate) fn requests_checked(rt: &HostRuntime, words: &ArgMatches<'_>) -> Result<Status, Fault> {
-    let form = form_of(words, false);
+    let form = form_of(words);
     let mut found = Found {
         counts: Counts::NONE,
         has_errors: false,
@@ -63,11 +56,11 @@ pub(crate) fn requests_checked(rt: &HostRuntime, words: &ArgMatches<'_>) -> Resu
 }
 
 /// What the words ask to be printed.
-fn form_of(words: &ArgMatches<'_>, no_warnings: bool) -> Form {
+fn form_of(words: &ArgMatches<'_>) -> Form {
     Form {
         json: words.get_flag("json"),
         quiet: words.get_flag("quiet"),
-        no_warnings,
+        no_warnings: words.get_flag("no-warnings"),
         limit: words.get_one("limit").unwrap_or(0),
     }
 }
@@ -130,14 +123,6 @@ fn check_input<T: io::Read + Drop>(
             }
         }
     }
-}
-
-/// Reports why an input cannot be checked, as one line on standard error. A failure of that write
-/// is ignored.
-fn report(rt: &HostRuntime, name: &str, why: &impl std::fmt::Display) -> Result<(), Fault> {
-    let name = shown_name(rt.alloc(), name)?;
-    let _ = eprintln!(rt; "bendrika: {name}: {why}");
-    Ok(())
 }
 
 /// Prints the last line, and returns the status.

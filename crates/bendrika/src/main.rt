@@ -2,16 +2,19 @@
 //!
 //! `bendrika check` reports every fault of configuration files, `bendrika cycles` those of request
 //! lines, `bendrika explain` prints what a code or a reply of `vme` means, `bendrika serve` answers
-//! lines one by one, and `bendrika outcomes` lists every outcome of a file. The exit status is 0, or
-//! 1 after errors in an input, 2 for wrong words, or 3 after a fault.
+//! lines one by one, `bendrika outcomes` lists every outcome of a file, and `bendrika trace` writes the
+//! waveforms of its run. The exit status is 0, or 1 after errors in an input, 2 for wrong words, or 3
+//! after a fault.
 #![tactic(auto)]
 
 mod check;
 mod explain;
 mod fault;
+mod input;
 mod outcomes;
 mod serve;
 mod status;
+mod trace;
 mod words;
 
 use crate::check::{checked, requests_checked};
@@ -20,6 +23,7 @@ use crate::fault::{Fault, fault_of};
 use crate::outcomes::listed;
 use crate::serve::served;
 use crate::status::Status;
+use crate::trace::traced;
 use crate::words::program;
 use clap::error::{Error, ErrorKind};
 use std::process::ExitCode;
@@ -54,6 +58,7 @@ fn run(rt: &HostRuntime) -> Result<Status, Fault> {
             Some(("explain", words)) => explained(rt, words),
             Some(("outcomes", words)) => listed(rt, words),
             Some(("serve", words)) => served(rt, words),
+            Some(("trace", words)) => traced(rt, words),
             _ => Ok(Status::WrongWords),
         },
         Err(error) => not_parsed(rt, &error),

@@ -1,20 +1,14 @@
 //! `bendrika outcomes`.
 use crate::fault::Fault;
+use crate::input::{STANDARD_INPUT, name_of, read_file, refuse};
 use crate::status::Status;
 use clap::{Arg, ArgAction, ArgMatches, Command, value_parser};
 use std::alloc::{AllocError, Global};
-use std::fs::File;
 use std::io;
-use vme_check::{Form, InputReader, check_engine, shown_name, summary};
-use vme_engines::{FILE_LIMIT, ProgramFault, read_input};
+use vme_check::shown_name;
+use vme_engines::ProgramFault;
 use vme_io::{Io, SliceSource};
 use vme_outcome_listing::{Asked, Condition, Kind, OutcomesFault, outcomes_engine};
-
-/// The name of standard input among the words.
-const STANDARD_INPUT: &str = "-";
-
-/// The name under which faults of standard input are reported.
-const STANDARD_INPUT_NAME: &str = "<stdin>";
 
 /// The greatest number of states if the words do not say another.
 const LIMIT: &str = "1000000";
@@ -100,38 +94,15 @@ pub(crate) fn listed(rt: &HostRuntime, words: &ArgMatches<'_>) -> Result<Status,
         quiet: words.get_flag("quiet"),
         conditions: stated.conditions.as_slice(),
     };
-    if path == STANDARD_INPUT {
-        return list_input(
+    match read_file(rt, path)? {
+        Some(file) => list_file(
             rt,
-            STANDARD_INPUT_NAME,
+            name_of(path),
             &asked,
             stated.texts.as_slice(),
-            rt.reader(),
-        );
-    }
-    match File::open(rt, path) {
-        Ok(file) => list_input(rt, path, &asked, stated.texts.as_slice(), file),
-        Err(error) if error.kind() == io::ErrorKind::OutOfMemory => Err(Fault::Memory),
-        Err(error) => report(rt, path, &error),
-    }
-}
-
-/// Lists the outcomes of an opened input.
-fn list_input<T: io::Read + Drop>(
-    rt: &HostRuntime,
-    name: &str,
-    asked: &Asked<'_>,
-    texts: &[&str],
-    input: T,
-) -> Result<Status, Fault> {
-    let mut reader = InputReader::new(input);
-    match read_input(rt.alloc(), &mut reader, FILE_LIMIT) {
-        Ok(file) => list_file(rt, name, asked, texts, file.as_slice()),
-        Err(ProgramFault::Memory) => Err(Fault::Memory),
-        Err(fault) => match reader.failure() {
-            Some(error) => report(rt, name, error),
-            None => report(rt, name, &fault),
-        },
+            file.as_slice(),
+        ),
+        None => Ok(Status::Fault),
     }
 }
 
@@ -165,33 +136,4 @@ fn list_file(
             Ok(Status::Fault)
         }
     }
-}
-
-/// Reports the findings of a file that is no configuration, on standard error.
-fn refuse(rt: &HostRuntime, name: &str, file: &[u8]) -> Result<Status, Fault> {
-    let form = Form {
-        json: false,
-        quiet: false,
-        no_warnings: false,
-        limit: 0,
-    };
-    let mut source = SliceSource::new(file, usize::MAX, usize::MAX);
-    let mut writer = Io::new(rt.stderr());
-    match check_engine(rt.alloc(), name, &form, &mut source, &mut writer) {
-        Ok(end) => {
-            let line = summary(rt.alloc(), end.counts, &form)?;
-            let _ = eprint!(rt; "{line}");
-            Ok(Status::WrongWords)
-        }
-        Err(ProgramFault::Memory) => Err(Fault::Memory),
-        Err(_) => Ok(Status::WrongWords),
-    }
-}
-
-/// Reports why an input cannot be read, as one line on standard error. A failure of that write is
-/// ignored.
-fn report(rt: &HostRuntime, name: &str, why: &impl std::fmt::Display) -> Result<Status, Fault> {
-    let name = shown_name(rt.alloc(), name)?;
-    let _ = eprintln!(rt; "bendrika: {name}: {why}");
-    Ok(Status::Fault)
 }

@@ -1,17 +1,15 @@
 //! `bendrika serve`.
 use crate::fault::{Fault, fault_of};
+use crate::input::{STANDARD_INPUT_NAME, report};
 use crate::status::Status;
 use clap::ArgMatches;
 use std::fs::File;
 use std::io::{self, BufReader};
-use vme_check::{InputReader, shown_name};
+use vme_check::InputReader;
 use vme_engines::{ProgramFault, read_config};
 use vme_io::Io;
 use vme_script::Config;
 use vme_serve::{SessionFault, serve};
-
-/// The name under which faults of standard input are reported.
-const STANDARD_INPUT_NAME: &str = "<stdin>";
 
 /// Answers the lines of standard input by the boards of the file that the words name.
 pub(crate) fn served(rt: &HostRuntime, words: &ArgMatches<'_>) -> Result<Status, Fault> {
@@ -67,12 +65,4 @@ fn session(rt: &HostRuntime, config: &Config) -> Result<Status, Fault> {
             Ok(Status::Fault)
         }
     }
-}
-
-/// Reports why an input cannot be read, as one line on standard error. A failure of that write is
-/// ignored.
-fn report(rt: &HostRuntime, name: &str, why: &impl std::fmt::Display) -> Result<(), Fault> {
-    let name = shown_name(rt.alloc(), name)?;
-    let _ = eprintln!(rt; "bendrika: {name}: {why}");
-    Ok(())
 }

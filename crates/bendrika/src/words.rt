@@ -21,7 +21,8 @@ pub(crate) fn program<'a>(alloc: Global) -> Result<Command<'a>, AllocError> {
         .subcommand(explain(alloc)?)?
         .subcommand(cycles(alloc)?)?
         .subcommand(serve(alloc)?)?
-        .subcommand(outcomes(alloc)?)
+        .subcommand(outcomes(alloc)?)?
+        .subcommand(trace(alloc)?)
 }
 
 /// `bendrika check`.
@@ -32,17 +33,13 @@ fn check<'a>(alloc: Global) -> Result<Command<'a>, AllocError> {
         .num_args(1..)
         .action(ArgAction::Append)
         .help("Configuration files; - is standard input");
-    let no_warnings = Arg::new(alloc, "no-warnings")
-        .long("no-warnings")
-        .action(ArgAction::SetTrue)
-        .help("Report errors alone");
     Command::new(alloc, "check")
         .about("Report the faults of configuration files, with line and column")
         .after_help("Status: 0 no error, 1 errors, 2 wrong words, 3 a file or the output failed")
         .arg(files)?
         .arg(json(alloc))?
         .arg(quiet(alloc))?
-        .arg(no_warnings)?
+        .arg(no_warnings(alloc))?
         .arg(limit(alloc))
 }
 
@@ -57,7 +54,20 @@ fn cycles<'a>(alloc: Global) -> Result<Command<'a>, AllocError> {
         .arg(file)?
         .arg(json(alloc))?
         .arg(quiet(alloc))?
+        .arg(no_warnings(alloc))?
         .arg(limit(alloc))
+}
+
+/// `bendrika trace`.
+fn trace<'a>(alloc: Global) -> Result<Command<'a>, AllocError> {
+    let file = Arg::new(alloc, "FILE")
+        .value_name("FILE")
+        .required(true)
+        .help("A configuration file; - is standard input");
+    Command::new(alloc, "trace")
+        .about("Write the waveforms of the run of vme step, as a value change dump (VCD)")
+        .after_help("Status: 0 written, 2 wrong words or no configuration, 3 a fault")
+        .arg(file)
 }
 
 /// `bendrika explain`.
@@ -109,6 +119,14 @@ fn quiet<'a>(alloc: Global) -> Arg<'a> {
         .long("quiet")
         .action(ArgAction::SetTrue)
         .help("Print no finding; the status says whether there is an error")
+}
+
+/// The option `--no-warnings`.
+fn no_warnings<'a>(alloc: Global) -> Arg<'a> {
+    Arg::new(alloc, "no-warnings")
+        .long("no-warnings")
+        .action(ArgAction::SetTrue)
+        .help("Report errors alone")
 }
 
 /// The option `--limit`.
