@@ -16,6 +16,9 @@ const LIMIT: &str = "1000000";
 /// The greatest number of states that the words may say.
 const MOST_STATES: i64 = 100_000_000;
 
+/// The numbers of states at which a search says how far it is, if the words ask for it.
+const STAGES: [usize; 4] = [10_000, 100_000, 1_000_000, 10_000_000];
+
 /// Returns the words of `bendrika outcomes`.
 pub(crate) fn outcomes<'a>(alloc: Global) -> Result<Command<'a>, AllocError> {
     let file = Arg::new(alloc, "FILE")
@@ -34,6 +37,10 @@ pub(crate) fn outcomes<'a>(alloc: Global) -> Result<Command<'a>, AllocError> {
         .value_parser(value_parser!(usize).range(1..=MOST_STATES))
         .default_value(LIMIT)
         .help("Explore at most N states");
+    let progress = Arg::new(alloc, "progress")
+        .long("progress")
+        .action(ArgAction::SetTrue)
+        .help("Say on standard error when 10000 states are found, and ten times as many");
     Command::new(alloc, "outcomes")
         .about("List every outcome that some order of turns gives, each with a schedule")
         .after_help(
@@ -51,7 +58,8 @@ pub(crate) fn outcomes<'a>(alloc: Global) -> Result<Command<'a>, AllocError> {
             "Fail if some outcome lacks one of these lines",
         ))?
         .arg(quiet)?
-        .arg(limit)
+        .arg(limit)?
+        .arg(progress)
 }
 
 /// Returns an option that states a condition.
@@ -99,6 +107,7 @@ pub(crate) fn listed(rt: &HostRuntime, words: &ArgMatches<'_>) -> Result<Status,
             rt,
             name_of(path),
             &asked,
+            words.get_flag("progress"),
             stated.texts.as_slice(),
             file.as_slice(),
         ),
@@ -111,12 +120,16 @@ fn list_file(
     rt: &HostRuntime,
     name: &str,
     asked: &Asked<'_>,
+    progress: bool,
     texts: &[&str],
     file: &[u8],
 ) -> Result<Status, Fault> {
-    let mut source = SliceSource::new(file, usize::MAX, usize::MAX);
-    let mut writer = Io::new(io::writer(rt));
-    match outcomes_engine(rt.alloc(), asked, &mut source, &mut writer) {
+    let end = if progress {
+        list_by_stages(rt, asked, file)
+    } else {
+        list_within(rt, asked, file)
+    };
+    match end {
         Ok(true) => Ok(Status::Done),
         Ok(false) => Ok(Status::Errors),
         Err(OutcomesFault::Program(ProgramFault::Config(_))) => refuse(rt, name, file),
@@ -136,4 +149,32 @@ fn list_file(
             Ok(Status::Fault)
         }
     }
+}
+
+/// Runs the engine on the bytes of a file.
+fn list_within(rt: &HostRuntime, asked: &Asked<'_>, file: &[u8]) -> Result<bool, OutcomesFault> {
+    let mut source = SliceSource::new(file, usize::MAX, usize::MAX);
+    let mut writer = Io::new(io::writer(rt));
+    outcomes_engine(rt.alloc(), asked, &mut source, &mut writer)
+}
+
+/// Runs the engine with one limit after another, and reports on standard error which were passed. A
+/// search that passes its limit has written nothing, and the next one begins anew.
+fn list_by_stages(rt: &HostRuntime, asked: &Asked<'_>, file: &[u8]) -> Result<bool, OutcomesFault> {
+    for stage in STAGES {
+        if asked.limit <= stage {
+            break;
+        }
+        let within = Asked {
+            limit: stage,
+            ..*asked
+        };
+        match list_within(rt, &within, file) {
+            Err(OutcomesFault::Limit) => {
+                let _ = eprintln!(rt; "bendrika: more than {stage} states");
+            }
+            end => return end,
+        }
+    }
+    list_within(rt, asked, file)
 }
