@@ -1,10 +1,11 @@
 //! The program `bendrika`, the companion of `vme`.
 //!
-//! `bendrika check` reports every fault of configuration files, `bendrika cycles` those of request
-//! lines, `bendrika explain` prints what a code or a reply of `vme` means, `bendrika serve` answers
-//! lines one by one, `bendrika outcomes` lists every outcome of a file, and `bendrika trace` writes the
-//! waveforms of its run. The exit status is 0, or 1 after errors in an input, 2 for wrong words, or 3
-//! after a fault.
+//! `bendrika check` reports the faults of configuration files that it can distinguish, `bendrika
+//! cycles` those of request lines, `bendrika explain` prints what a code or a reply of `vme` means,
+//! `bendrika serve` answers lines one by one, `bendrika outcomes` lists every outcome of a file, and
+//! `bendrika trace` writes the waveforms of its run. The exit status is 0; 1 after errors in an input
+//! or if a condition fails; 2 for wrong words, or a file of `outcomes` or `trace` that is no
+//! configuration; 3 after a fault.
 #![tactic(auto)]
 
 mod check;

@@ -40,7 +40,7 @@ pub(crate) fn outcomes<'a>(alloc: Global) -> Result<Command<'a>, AllocError> {
     let progress = Arg::new(alloc, "progress")
         .long("progress")
         .action(ArgAction::SetTrue)
-        .help("Say on standard error when 10000 states are found, and ten times as many");
+        .help("Report on standard error when 10000, 100000, .. states are passed");
     Command::new(alloc, "outcomes")
         .about("List every outcome that some order of turns gives, each with a schedule")
         .after_help(
@@ -171,7 +171,7 @@ fn list_by_stages(rt: &HostRuntime, asked: &Asked<'_>, file: &[u8]) -> Result<bo
         };
         match list_within(rt, &within, file) {
             Err(OutcomesFault::Limit) => {
-                let _ = eprintln!(rt; "bendrika: more than {stage} states");
+                let _ = eprintln!(rt; "bendrika: {stage} states passed, searching on");
             }
             end => return end,
         }

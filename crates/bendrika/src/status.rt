@@ -5,9 +5,9 @@
 pub(crate) enum Status {
     /// The command did what it was asked to, and found no error.
     Done,
-    /// An input has an error.
+    /// An input has an error, or a condition on the outcomes fails.
     Errors,
-    /// The words of the command line are wrong.
+    /// The words are wrong, or the file of `outcomes` or `trace` is no configuration.
     WrongWords,
     /// An input or a device failed, or an allocation.
     Fault,

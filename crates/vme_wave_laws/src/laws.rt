@@ -13,8 +13,8 @@ pub fn strobes_are_low_under_the_address_strobe()
 {}
 
 /// States the order of strobes and answers in a handshake (IEEE 1014-1987, 2.4). DTACK* or BERR*
-/// falls only while a data strobe is low, it rises only when both are high, and no handshake has
-/// both answers.
+/// falls only while a data strobe is low, if the location has one; it rises only when both are high,
+/// and no handshake has both answers.
 pub fn answers_follow_the_strobes()
     ensures falls { (t : Handshake) (letter k : ℕ) → IsAnswer letter → HasStrobe t →
         line_at t letter k ≢ Low → line_at t letter (suc k) ≡ Low →
@@ -36,7 +36,8 @@ pub fn data_stand_under_the_answer()
 {}
 
 /// States that, while an answer is low, the address modifier, A31 to A01, LWORD* and WRITE* have the
-/// levels of the cycle's lines, in a handshake for which AS* falls (IEEE 1014-1987, 2.4).
+/// levels of the cycle's lines, in a handshake for which AS* falls (IEEE 1014-1987, 2.4). For A31 to
+/// A01 and LWORD* the address lines carry no data; for WRITE* it does not fall within the handshake.
 pub fn the_address_stands_under_the_answer()
     ensures modifier { (t : Handshake) (letter k : ℕ) (before : Value) → IsTrue t.opens →
         IsAnswer letter → line_at t letter k ≡ Low →
