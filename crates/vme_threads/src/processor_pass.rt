@@ -133,7 +133,7 @@ impl ProcessorPass {
 
     /// Runs one line of the script attempt by attempt, until it has its reply. `line` is the index
     /// among the lines that are neither blank nor comments; `buffer` receives what the line reads
-    /// over the bus. It pauses before each further attempt.
+    /// over the bus. It pauses before each further attempt, unless there is no other processor.
     ///
     /// # Errors
     /// `Spent` if an object has made 2^64 - 1 steps, or if the workers of these ports have to stop.
@@ -168,10 +168,17 @@ impl ProcessorPass {
             let reply = self.call_event(rt, ports, &task.event_ref().unwrap())?;
             let attempts = task.attempts_left();
             task.advance(Some(&reply));
-            if task.attempts_left() < attempts {
-                backoff.snooze();
-            }
+            self.pause(&backoff, attempts, task.attempts_left());
         }
         unreachable!()
+    }
+
+    /// Pauses before a further attempt, so that other processors get the bus, if there are any.
+    /// `before` and `left` are the numbers of attempts that were left before and after an event.
+    #[inline(always)]
+    fn pause(&self, backoff: &Backoff, before: u32, left: u32) {
+        if left < before && self.boards > 1 {
+            backoff.snooze();
+        }
     }
 }

@@ -33,15 +33,6 @@ loop-preserved g c =
     c.advance-in-loop.ensures.begun
     (c.advance-in-loop.ensures.below n c.loop.invariant.below)
 
-pub loop-preserved-then-attempts_left-attempts : goal.loop-preserved-then-attempts_left-attempts
-loop-preserved-then-attempts_left-attempts g c =
-    let n = length c.args.config.now.boards in
-    line_more c.args.config.now c.args.line c.args.self.now c.loop.self c.call_event.new.self
-    (call_asked c.unwrap-in-loop.result) c.in_ok-reply.reply c.loop.task c.advance-in-loop.new.self
-    c.loop.invariant (rw c.unwrap-in-loop.ensures at c.event_ref.ensures) c.in_ok-reply.ensures c.advance-in-loop.ensures.task
-    c.advance-in-loop.ensures.begun
-    (c.advance-in-loop.ensures.below n c.loop.invariant.below)
-
 pub returns-then-is_finished : goal.returns-then-is_finished
 returns-then-is_finished g c =
     line_end c.args.config.now c.args.line c.args.self.now c.loop.self c.loop.task c.unwrap.result c.loop.invariant
