@@ -28,6 +28,11 @@ pub(crate) fn read_file(rt: &HostRuntime, path: &str) -> Result<Option<Vec<u8>>,
     if path == STANDARD_INPUT {
         return read_all(rt, STANDARD_INPUT_NAME, rt.reader());
     }
+    read_named(rt, path)
+}
+
+/// Reads a configuration file to its end. `None` if it cannot be read, which is reported.
+pub(crate) fn read_named(rt: &HostRuntime, path: &str) -> Result<Option<Vec<u8>>, Fault> {
     match File::open(rt, path) {
         Ok(file) => read_all(rt, path, file),
         Err(error) if error.kind() == io::ErrorKind::OutOfMemory => Err(Fault::Memory),

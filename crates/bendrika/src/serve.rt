@@ -1,50 +1,25 @@
 //! `bendrika serve`.
 use crate::fault::{Fault, fault_of};
-use crate::input::{STANDARD_INPUT_NAME, report};
+use crate::input::{STANDARD_INPUT_NAME, read_named, refuse, report};
 use crate::status::Status;
 use clap::ArgMatches;
-use std::fs::File;
 use std::io::{self, BufReader};
 use vme_check::InputReader;
-use vme_engines::{ProgramFault, read_config};
 use vme_io::Io;
-use vme_script::Config;
+use vme_script::{Config, ConfigFault};
 use vme_serve::{SessionFault, serve};
 
-/// Answers the lines of standard input by the boards of the file that the words name.
+/// Answers the lines of standard input by the boards of the file that the words name. One that is no
+/// configuration is reported as by `check`, on standard error.
 pub(crate) fn served(rt: &HostRuntime, words: &ArgMatches<'_>) -> Result<Status, Fault> {
     let path = words.get_str("FILE").unwrap_or("");
-    let config = match File::open(rt, path) {
-        Ok(file) => configured(rt, path, file)?,
-        Err(error) if error.kind() == io::ErrorKind::OutOfMemory => return Err(Fault::Memory),
-        Err(error) => {
-            report(rt, path, &error)?;
-            return Ok(Status::Fault);
-        }
+    let Some(file) = read_named(rt, path)? else {
+        return Ok(Status::Fault);
     };
-    match config {
+    match Config::read(rt.alloc(), file.as_slice()) {
         Ok(config) => session(rt, &config),
-        Err(status) => Ok(status),
-    }
-}
-
-/// Reads the configuration of a file, or reports why it has none and returns the exit status.
-fn configured(rt: &HostRuntime, path: &str, file: File) -> Result<Result<Config, Status>, Fault> {
-    let mut reader = InputReader::new(file);
-    match read_config(rt.alloc(), &mut reader) {
-        Ok(config) => Ok(Ok(config)),
-        Err(ProgramFault::Memory) => Err(Fault::Memory),
-        Err(ProgramFault::Config(fault)) => {
-            report(rt, path, &fault)?;
-            Ok(Err(Status::Errors))
-        }
-        Err(fault) => {
-            match reader.failure() {
-                Some(error) => report(rt, path, error)?,
-                None => report(rt, path, &fault)?,
-            }
-            Ok(Err(Status::Fault))
-        }
+        Err(ConfigFault::OutOfMemory) => Err(Fault::Memory),
+        Err(_) => refuse(rt, path, file.as_slice()),
     }
 }
 

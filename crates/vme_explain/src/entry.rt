@@ -15,7 +15,8 @@ pub struct Text {
     pub sections: &'static str,
     /// What to do. Empty: nothing.
     pub help: &'static str,
-    /// An input that `vme` answers with the code. A fault of the program and a warning have none.
+    /// An input that `vme` answers with the code. A fault of the program, a warning and an answer of
+    /// `bendrika serve` alone have none.
     pub example: Option<Example>,
 }
 

@@ -25,14 +25,15 @@ pub fn all() -> [&'static [Text]; 6] {
 }
 
 /// Returns the texts that a line asks for. The line has codes in any case, or is a reply, a refusal
-/// or a fault as `vme` printed it, or the first line of a finding as `bendrika check` printed it.
+/// or a fault as `vme` or `bendrika` printed it, or the first line of a finding as `bendrika check`
+/// printed it.
 ///
 /// # Errors
 ///
 /// An allocation failed.
 pub fn texts_in(alloc: Global, line: &str) -> Result<Asked, AllocError> {
     let mut texts = Vec::new(alloc);
-    if let Some(text) = fault_in(line).or(finding_in(line)) {
+    if let Some(text) = text_of(line).or(fault_in(line)).or(finding_in(line)) {
         texts.push(text)?;
         return Ok(Asked::Texts(texts));
     }
@@ -89,14 +90,24 @@ fn is_among(names: &[&str], code: &str) -> bool {
     false
 }
 
-/// The text of a fault of the program, if the line is one that `vme` printed.
+/// The text of a fault of the program, if the line is one that `vme` or `bendrika` printed.
 fn fault_in(line: &str) -> Option<Text> {
-    let printed = line.strip_prefix("vme: ")?;
+    let printed = line
+        .strip_prefix("vme: ")
+        .or(line.strip_prefix("bendrika: "))?;
     if printed.starts_with("usage") {
         return text_of("usage");
     }
+    match printed.rsplit_once(": ") {
+        Some((_, fault)) => text_titled(fault),
+        None => text_titled(printed),
+    }
+}
+
+/// The text of a fault of the program, if a title is that of one.
+fn text_titled(title: &str) -> Option<Text> {
     for text in &FAULTS {
-        if text.title.eq_ignore_ascii_case(printed) {
+        if text.title.eq_ignore_ascii_case(title) {
             return Some(*text);
         }
     }
@@ -114,6 +125,7 @@ fn is_plain_part(word: &str) -> bool {
     word.is_empty()
         || word.starts_with(|c: char| c.is_ascii_digit())
         || word == "vme:"
+        || word == "bendrika:"
         || word == "slot"
         || word == "line"
 }

@@ -1,7 +1,7 @@
-//! The replies to lines.
+//! The replies to lines, and the other answers of `bendrika serve`.
 use crate::entry::{Example, Input, Text};
 
-pub(crate) static REPLIES: [Text; 10] = [
+pub(crate) static REPLIES: [Text; 12] = [
     Text {
         code: "done",
         others: &["read", "old", "met", "taken", "put", "took"],
@@ -150,5 +150,25 @@ pub(crate) static REPLIES: [Text; 10] = [
             input: Input::Line,
             shows: "refused K9",
         }),
+    },
+    Text {
+        code: "slot refused",
+        others: &[],
+        title: "no such slot",
+        cause: "The line that `bendrika serve` read does not begin with the slot of a board, in \
+            one or two digits, and one space. It changes nothing.",
+        sections: "",
+        help: "Write `SLOT LINE`, as `1 r 09 00000000 4`.",
+        example: None,
+    },
+    Text {
+        code: "nothing",
+        others: &[],
+        title: "no request",
+        cause: "After the slot and its space the line that `bendrika serve` read has no word, or \
+            a comment. It changes nothing.",
+        sections: "",
+        help: "",
+        example: None,
     },
 ];
