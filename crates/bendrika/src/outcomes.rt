@@ -9,6 +9,7 @@ use vme_check::shown_name;
 use vme_engines::ProgramFault;
 use vme_io::{Io, SliceSource};
 use vme_outcome_listing::{Asked, Condition, Kind, OutcomesFault, outcomes_engine};
+use vme_script::{Config, Line};
 
 /// The greatest number of states if the words do not say another.
 const LIMIT: &str = "1000000";
@@ -143,12 +144,37 @@ fn list_file(
         }
         Err(OutcomesFault::Limit) => {
             let limit = asked.limit;
+            let fewer = if has_attempts(rt.alloc(), file) {
+                "set `tries = 2` in the file, "
+            } else {
+                ""
+            };
             let _ = eprintln!(rt;
-                "bendrika: more than {limit} states: set `tries = 2` in the file, write fewer lines, or raise --limit"
+                "bendrika: more than {limit} states: {fewer}write fewer lines, or raise --limit"
             );
             Ok(Status::Fault)
         }
     }
+}
+
+/// Returns whether a line of a configuration file may make more than one attempt.
+fn has_attempts(alloc: Global, file: &[u8]) -> bool {
+    let Ok(config) = Config::read(alloc, file) else {
+        return false;
+    };
+    for board in 0..config.boards() {
+        let script = config.script(board);
+        for line in 0..script.len() {
+            if let Line::Await { .. }
+            | Line::Lock { .. }
+            | Line::Put { .. }
+            | Line::Take { .. } = script.line(line)
+            {
+                return true;
+            }
+        }
+    }
+    false
 }
 
 /// Runs the engine on the bytes of a file.

@@ -13,8 +13,7 @@ mod listing;
 mod names;
 mod paragraph;
 mod print;
-#[cfg(test)]
-mod tests;
+mod replies;
 mod text;
 mod write;
 

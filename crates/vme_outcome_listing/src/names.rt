@@ -2,17 +2,12 @@
 ghost use Rattle.std.specs.Prelude.{◌<◌, IfSome, length};
 
 use crate::condition::Condition;
+use crate::replies::{is_hex_of, may_reply};
 use std::alloc::{AllocError, Global};
 use vme_script::Config;
 
 /// The number of bytes in a row of memory.
 const ROW_SIZE: u32 = 16;
-
-/// The first words of replies.
-const REPLIES: [&str; 14] = [
-    "read", "done", "old", "met", "taken", "put", "took", "berr", "timeout", "busy", "full",
-    "empty", "spent", "refused",
-];
 
 /// Returns the index of the first condition with a line that can be in no outcome of the file.
 pub(crate) fn first_unnamed(
@@ -30,7 +25,7 @@ pub(crate) fn first_unnamed(
     Ok(None)
 }
 
-/// Returns whether a line is a reply to a line of a script, or a row of a board's memory.
+/// Returns whether a text may be the reply to a line of a script, or a row of a board's memory.
 fn is_named(alloc: Global, config: &Config, line: &str) -> Result<bool, AllocError> {
     let Some((first, rest)) = line.split_once(' ') else {
         return Ok(false);
@@ -41,21 +36,11 @@ fn is_named(alloc: Global, config: &Config, line: &str) -> Result<bool, AllocErr
     Ok(is_reply(config, first, rest))
 }
 
-/// Returns whether a place is that of a line of a script, and a text begins with the word of a
-/// reply.
+/// Returns whether a place is that of a line of a script, and a text may be the reply to this line.
 fn is_reply(config: &Config, place: &str, text: &str) -> bool {
     let Some((slot, number)) = place.split_once(':') else {
         return false;
     };
-    let word = match text.split_once(' ') {
-        Some((word, _)) => word,
-        None => text,
-    };
-    has_line(config, slot, number) && REPLIES.contains(&word)
-}
-
-/// Returns whether a script has a line that requests something, by its slot and its number.
-fn has_line(config: &Config, slot: &str, number: &str) -> bool {
     let Some(board) = board_in(config, slot) else {
         return false;
     };
@@ -65,7 +50,7 @@ fn has_line(config: &Config, slot: &str, number: &str) -> bool {
     let script = config.script(board);
     for line in 0..script.len() {
         if script.number(line) == number {
-            return true;
+            return may_reply(script.line(line), text);
         }
     }
     false
@@ -91,7 +76,7 @@ fn is_row(alloc: Global, config: &Config, text: &str) -> Result<bool, AllocError
 /// Returns whether an offset is that of a row of a memory of a size, and bytes are as many as the
 /// row has, all in lower-case hexadecimal digits.
 fn is_row_of(size: u32, offset: &str, bytes: &str) -> bool {
-    if !is_hex(offset) || !is_hex(bytes) || offset.len() != 8 {
+    if !is_hex_of(offset, 4) {
         return false;
     }
     let Ok(start) = u32::from_str_radix(offset, 16) else {
@@ -100,16 +85,7 @@ fn is_row_of(size: u32, offset: &str, bytes: &str) -> bool {
     if start % ROW_SIZE != 0 || size <= start {
         return false;
     }
-    let count = ROW_SIZE.min(size - start) as usize;
-    bytes.len() == count * 2
-}
-
-/// Returns whether a text has lower-case hexadecimal digits alone.
-fn is_hex(text: &str) -> bool {
-    text.as_bytes().iter().all(|digit| match *digit {
-        b'0'..=b'9' | b'a'..=b'f' => true,
-        _ => false,
-    })
+    is_hex_of(bytes, ROW_SIZE.min(size - start) as usize)
 }
 
 /// Returns the index of the board in a slot.

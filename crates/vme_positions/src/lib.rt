@@ -13,8 +13,6 @@ mod place;
 mod repeated;
 mod script;
 mod span;
-#[cfg(test)]
-mod tests;
 mod walk;
 
 pub use cursor::{Cursor, Position};

@@ -2,12 +2,12 @@
 //! handshake.
 ghost use Rattle.std.specs.Prelude.{◌≡◌, false};
 
-use crate::trace_engine;
 use std::alloc::Global;
 use std::test::Fail;
 use vme_engines::ProgramFault;
 use vme_io::{RoomSink, SliceSource};
 use vme_script::ConfigFault;
+use vme_trace::trace_engine;
 
 /// A processor sets a bit of its own board.
 static SETTING: &str = "rounds = 3

@@ -1,7 +1,7 @@
 //! Tests of positions.
-use super::*;
 use std::alloc::AllocError;
 use std::test::Fail;
+use vme_positions::{Cursor, Key, Outline, Place, Position, Span, TableName};
 
 mod cases;
 mod checks;

@@ -1,9 +1,9 @@
 //! Compares an outline with the table that `toml` reads: the text of each part, parsed alone, is
 //! the part.
-use crate::{Key, Outline, Place, Span, TableName};
 use std::alloc::{AllocError, Global};
 use toml::{Table, Value};
 use toml_parser::dotted_key;
+use vme_positions::{Key, Outline, Place, Span, TableName};
 
 /// What a comparison found.
 #[derive(Drop)]

@@ -1,11 +1,11 @@
 //! Tests with a file whose outcomes were found by hand and by `vme step`.
 ghost use Rattle.std.specs.Prelude.{◌≡◌, false};
 
-use crate::{Asked, Condition, Kind, OutcomesFault, outcomes_engine};
 use std::alloc::{AllocError, Global};
 use std::test::Fail;
 use vme_engines::ProgramFault;
 use vme_io::{RoomSink, SliceSource};
+use vme_outcome_listing::{Asked, Condition, Kind, OutcomesFault, outcomes_engine};
 use vme_script::ConfigFault;
 
 /// Each processor writes its own board, and then reads the other's.
@@ -146,6 +146,21 @@ fn a_condition_names_lines_of_the_file(rt: HostRuntime) -> Result<(), Fail> {
         ("1:3 done", false),
         ("01:1 done", false),
         ("1:1 doen", false),
+        ("1:1 read 01", false),
+        ("1:2 done", false),
+        ("1:2 old 01", false),
+        ("1:2 read", false),
+        ("1:2 read 1", false),
+        ("1:2 read AB", false),
+        ("1:2 read 0102", false),
+        ("1:2 berr", false),
+        ("1:2 berr 00", false),
+        ("1:2 berr 0", true),
+        ("1:2 berr 1 aabb", true),
+        ("1:2 berr 1 aab", false),
+        ("1:2 refused K4", true),
+        ("1:2 refused K0", false),
+        ("1:2 refused S4", false),
         ("1:1", false),
         ("", false),
         ("1:1 done; ", false),

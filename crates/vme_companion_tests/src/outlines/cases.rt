@@ -1,6 +1,6 @@
 //! Positions of places in files with errors. Lines and columns were counted by hand.
-use crate::{Cursor, Key, Outline, Place, Position, Span, TableName};
 use std::test::Fail;
+use vme_positions::{Cursor, Key, Outline, Place, Position, Span, TableName};
 
 const UNKNOWN_KEYS: &str = r#"schedule = [1, 2, 3]
 [[boad]]
