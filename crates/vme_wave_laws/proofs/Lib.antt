@@ -1,6 +1,10 @@
-pub mod Afters
-pub mod Pulses
-pub mod Groups
+pub mod lemmas
 pub mod Strobes
 pub mod Addresses
 pub mod Opening
+pub mod Shapes
+pub mod Joined
+pub mod EventLines
+pub mod Rules
+pub mod EventEnds
+pub mod SlotEnds

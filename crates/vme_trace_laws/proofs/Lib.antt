@@ -1,0 +1,10 @@
+pub mod Elements
+pub mod Jobs
+pub mod Turns
+pub mod Runs
+pub mod Counts
+pub mod Places
+pub mod Busy
+pub mod Numbers
+pub mod Holders
+pub mod Rests
