@@ -2,10 +2,10 @@
 //!
 //! `bendrika check` reports the faults of configuration files that it can distinguish, `bendrika
 //! cycles` those of request lines, `bendrika explain` prints what a code or a reply of `vme` means,
-//! `bendrika serve` answers lines one by one, `bendrika outcomes` lists every outcome of a file, and
-//! `bendrika trace` writes the waveforms of its run. The exit status is 0; 1 after errors in an input
-//! or if a condition fails; 2 for wrong words, or a file of `outcomes` or `trace` that is no
-//! configuration; 3 after a fault.
+//! `bendrika serve` answers lines one by one, `bendrika outcomes` lists every outcome of a file,
+//! `bendrika trace` writes the waveforms of its run, and `bendrika page` a page with its timing
+//! diagrams. The exit status is 0; 1 after errors in an input or if a condition fails; 2 for wrong
+//! words, or a file of `outcomes`, `page` or `trace` that is no configuration; 3 after a fault.
 #![tactic(auto)]
 
 mod check;
@@ -13,6 +13,7 @@ mod explain;
 mod fault;
 mod input;
 mod outcomes;
+mod page;
 mod serve;
 mod status;
 mod trace;
@@ -22,6 +23,7 @@ use crate::check::{checked, requests_checked};
 use crate::explain::explained;
 use crate::fault::{Fault, fault_of};
 use crate::outcomes::listed;
+use crate::page::paged;
 use crate::serve::served;
 use crate::status::Status;
 use crate::trace::traced;
@@ -58,6 +60,7 @@ fn run(rt: &HostRuntime) -> Result<Status, Fault> {
             Some(("cycles", words)) => requests_checked(rt, words),
             Some(("explain", words)) => explained(rt, words),
             Some(("outcomes", words)) => listed(rt, words),
+            Some(("page", words)) => paged(rt, words),
             Some(("serve", words)) => served(rt, words),
             Some(("trace", words)) => traced(rt, words),
             _ => Ok(Status::WrongWords),

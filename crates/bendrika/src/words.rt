@@ -22,7 +22,8 @@ pub(crate) fn program<'a>(alloc: Global) -> Result<Command<'a>, AllocError> {
         .subcommand(cycles(alloc)?)?
         .subcommand(serve(alloc)?)?
         .subcommand(outcomes(alloc)?)?
-        .subcommand(trace(alloc)?)
+        .subcommand(trace(alloc)?)?
+        .subcommand(page(alloc)?)
 }
 
 /// `bendrika check`.
@@ -70,6 +71,22 @@ fn trace<'a>(alloc: Global) -> Result<Command<'a>, AllocError> {
         .arg(file)
 }
 
+/// `bendrika page`.
+fn page<'a>(alloc: Global) -> Result<Command<'a>, AllocError> {
+    let file = Arg::new(alloc, "FILE")
+        .value_name("FILE")
+        .required(true)
+        .help("A configuration file; - is standard input");
+    let events = Arg::new(alloc, "EVENTS").value_name("A-B").help(
+        "Show events A to B, numbered from 1; events 1 to 1000 if not given",
+    );
+    Command::new(alloc, "page")
+        .about("Write timing diagrams of the run of vme step, and its report, as a page of HTML")
+        .after_help("Status: 0 written, 2 wrong words or no configuration, 3 a fault")
+        .arg(file)?
+        .arg(events)
+}
+
 /// `bendrika explain`.
 fn explain<'a>(alloc: Global) -> Result<Command<'a>, AllocError> {
     let words = Arg::new(alloc, "WORD")
@@ -100,7 +117,7 @@ fn serve<'a>(alloc: Global) -> Result<Command<'a>, AllocError> {
         .help("A configuration file; its scripts, schedule, rounds and tries play no part");
     Command::new(alloc, "serve")
         .about("Answer lines `SLOT LINE` of standard input, one by one, over a file's boards")
-        .after_help("Status: 0 end of input, 1 not a configuration, 2 wrong words, 3 a fault")
+        .after_help("Status: 0 end of input, 2 wrong words or no configuration, 3 a fault")
         .arg(file)
 }
 

@@ -4,10 +4,9 @@
 #![tactic(auto)]
 
 mod engine;
-#[cfg(test)]
-mod tests;
 mod trace;
 mod turns;
 
 pub use engine::trace_engine;
 pub use trace::write_trace;
+pub use turns::FileTurns;

@@ -1,14 +1,14 @@
 //! The turns of a file, one after another.
 ghost use Rattle.std.specs.Prelude.{◌≡◌, ◌≤◌, ◌∷◌, [], length, MatchOption};
 ghost use Rattle.vme_stepper.specs.Schedules.{file_turns};
-ghost use Rattle.vme_trace.specs.Turns.{turns_left, round_left};
+ghost use Rattle.vme_trace.specs.Turns.{turns_left, round_left, IsTurnsOf};
 
 use vme_script::Config;
 
 /// Which turns of a configuration's file are left: those of its schedule, and then its rounds over
 /// all slots. No list of them is made.
 #[derive(Clone, Copy, Debug, PartialEq, Eq)]
-pub(crate) struct FileTurns {
+pub struct FileTurns {
     /// The slot of the current pair of the schedule.
     slot: u16,
     /// The turns that are left of this pair.
@@ -24,9 +24,9 @@ pub(crate) struct FileTurns {
 impl FileTurns {
     /// Returns all turns of a configuration's file.
     #[tactic(auto, using(crate::proofs::TurnsLeft::all_turns))]
-    pub(crate) fn new(config: &Config) -> FileTurns
+    pub fn new(config: &Config) -> FileTurns
         ensures turns { turns_left config.now result ≡ file_turns config.now }
-        ensures board { result.board ≤ length config.now.boards }
+        ensures board { IsTurnsOf config.now result }
     {
         FileTurns {
             slot: 0,
@@ -38,11 +38,11 @@ impl FileTurns {
     }
 
     /// Returns the slot of the next turn, or `None` if no turn is left.
-    pub(crate) fn next(&mut self, config: &Config) -> Option<u16>
-        requires { self.old.board ≤ length config.now.boards }
+    pub fn next(&mut self, config: &Config) -> Option<u16>
+        requires { IsTurnsOf config.now self.old }
         ensures next { MatchOption result (turns_left config.now self.old ≡ [])
             (λ slot. turns_left config.now self.old ≡ slot ∷ turns_left config.now self.new) }
-        ensures board { self.new.board ≤ length config.now.boards }
+        ensures board { IsTurnsOf config.now self.new }
     {
         self.begin_pair(config);
         if self.left == 0 {

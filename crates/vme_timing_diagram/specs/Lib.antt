@@ -1,0 +1,11 @@
+pub mod Windows
+pub mod Points
+pub mod Shapes
+pub mod Rows
+pub mod Levels
+pub mod Layouts
+pub mod Accesses
+pub mod Headings
+pub mod Cells
+pub mod Strips
+pub mod Diagrams

@@ -1,0 +1,3 @@
+pub mod Notes
+pub mod Drawings
+pub mod Pages
