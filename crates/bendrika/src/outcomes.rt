@@ -139,7 +139,9 @@ fn list_file(
         Err(OutcomesFault::Condition(i)) => {
             let text = texts.get(i).copied().unwrap_or("");
             let name = shown_name(rt.alloc(), name)?;
-            let _ = eprintln!(rt; "bendrika: `{text}` names no line of {name}");
+            let _ = eprintln!(rt;
+                "bendrika: `{text}` is no reply or row of memory that {name} can have"
+            );
             Ok(Status::WrongWords)
         }
         Err(OutcomesFault::Limit) => {
