@@ -1,4 +1,4 @@
-ghost use Rattle.std.specs.Prelude.{ℕ, ◌≡◌, ◌↔◌, ◌+◌, ◌%◌, ◌≤◌, length, take, drop, slice_get, true, false, Some, IsTrue, ◌&&◌, ◌||◌, not, IfOk, OnOk, IsErrOf};
+ghost use Rattle.std.specs.Prelude.{ℕ, ◌≡◌, ◌↔◌, ◌+◌, ◌%◌, ◌≤◌, length, take, drop, slice_get, true, false, Some, None, IsTrue, ◌&&◌, ◌||◌, not, IfOk, OnOk, IsErrOf};
 ghost use Rattle.vme_lanes.specs.Rows.{row_of};
 ghost use Rattle.vme_memory.specs.Words.{part_of};
 ghost use Rattle.vme_cycle.specs.SignalLines.{len_at};
@@ -155,6 +155,28 @@ impl ByteMemory {
             (false, true, Some(f)) => self.modify(location, at, f),
             (_, _, Some(_)) => Reply::Berr,
         }
+    }
+
+    /// Returns the reply to a read cycle without a function, as `cycle` does. It changes nothing.
+    #[tactic(auto, using(crate::proofs::Places::quad_first), unfolding(crate::specs::Steps::cycle))]
+    pub(crate) fn read_cycle(&self, signals: &Signals, at: u32) -> Reply
+        requires { signals.now.write ≡ true }
+        ensures reply { result ≡ (cycle self.now signals.now at None).0 }
+        ensures memory { self.now ≡ (cycle self.now signals.now at None).1 }
+    {
+        let Some(location) = signals.sensed_at(at) else {
+            return Reply::Berr;
+        };
+        if u32::from(location.first()) != at % 4 {
+            return Reply::Berr;
+        }
+        if !signals.am().wide() {
+            return self.read(signals.am().kind().is_block(), location, at);
+        }
+        if location.len() != 4 {
+            return Reply::Berr;
+        }
+        self.read_wide(at)
     }
 
     /// The reply to a cycle with a code of eight-byte data, in which BYTE(0-3) selects all eight

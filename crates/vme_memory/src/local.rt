@@ -1,5 +1,5 @@
 //! The local port of a board.
-ghost use Rattle.std.specs.Prelude.{◌≡◌, ◌&&◌};
+ghost use Rattle.std.specs.Prelude.{◌≡◌, ◌&&◌, IfSome, is_some};
 ghost use Rattle.vme_memory.specs.Classes.{is_local_len};
 
 use crate::board::ByteMemory;
@@ -11,7 +11,7 @@ use vme_lanes::Datum;
 impl ByteMemory {
     ghost use Rattle.vme_memory.specs.Steps as Steps;
     ghost use Rattle.vme_memory.specs.Steps.{fits, step};
-    ghost use Rattle.vme_memory.specs.Locals.{answer_given};
+    ghost use Rattle.vme_memory.specs.Locals.{answer_given, only_reads};
 
     /// Returns the reply to a command by either port. The reply and the new memory are those of the
     /// command. After `Berr` nothing has changed. The local port accepts any offset and ignores the
@@ -27,6 +27,24 @@ impl ByteMemory {
             BoardCmd::LocalWrite { offset, bytes } => self.local_write(*offset, bytes),
             BoardCmd::LocalModify { offset, n, f } => self.local_modify(*offset, *n, f),
             BoardCmd::Cycle { signals, at, f } => self.cycle(signals, *at, f.as_ref()),
+        }
+    }
+
+    /// Returns the reply to a command that only reads, as `local` does, without changing anything;
+    /// `None` for the other commands.
+    #[tactic(auto, unfolding(crate::specs::Locals::answer_given, crate::specs::Steps::cycle))]
+    pub fn peek(&self, command: &BoardCmd) -> Option<Reply>
+        ensures reply { IfSome result (λ reply. (reply, self.now) ≡ answer_given self.now command.now) }
+        ensures reads { is_some result ≡ only_reads command.now }
+    {
+        match command {
+            BoardCmd::LocalRead { offset, n } => Some(self.local_read(*offset, *n)),
+            BoardCmd::Cycle {
+                signals,
+                at,
+                f: None,
+            } if signals.write() => Some(self.read_cycle(signals, *at)),
+            _ => None,
         }
     }
 
