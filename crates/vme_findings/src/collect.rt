@@ -21,30 +21,14 @@ const MOST_BOARDS: usize = 21;
 /// The greatest number of mailboxes.
 const MOST_MAILBOXES: usize = 16;
 
-/// Finds the faults of a text. A text that is not TOML has one.
-pub(crate) fn collect(alloc: Global, text: &[u8]) -> Result<Vec<Finding>, AllocError> {
+/// Finds the faults of a document.
+pub(crate) fn collect(alloc: Global, table: &Table) -> Result<Vec<Finding>, AllocError> {
     let mut found = Vec::new(alloc);
-    match toml::table_from_slice(alloc, text) {
-        Ok(table) => collect_file(alloc, &table, &mut found)?,
-        Err(error) => match error.span() {
-            Some(span) => {
-                let place = Place::Bytes {
-                    from: span.start,
-                    to: span.end,
-                };
-                find(
-                    &mut found,
-                    Cause::Document(DocumentCause::NotToml { error }),
-                    place,
-                )?;
-            }
-            None => return Err(AllocError),
-        },
-    }
+    collect_file(alloc, table, &mut found)?;
     Ok(found)
 }
 
-/// Finds the faults of a document.
+/// Finds the faults of a document's keys, boards, mailboxes and scripts.
 fn collect_file(alloc: Global, table: &Table, found: &mut Vec<Finding>) -> Result<(), AllocError> {
     let file = Section {
         values: table,

@@ -1,14 +1,19 @@
 //! The findings of a file: its refusal first.
-ghost use Rattle.std.specs.Prelude.{◌≡◌, ◌++◌, List, Some, IfOk};
+ghost use Rattle.std.specs.Prelude.{◌≡◌, ◌++◌, List, Some, IfOk, IsUtf8};
+ghost use Rattle.toml.specs.Errors.{IsMemory};
+ghost use Rattle.toml.specs.Parse.{parse_document};
+ghost use Rattle.toml.specs.View.{table_view};
 ghost use Rattle.vme_findings.specs.declared.finding.Finding.{Finding};
 ghost use Rattle.vme_findings.specs.Causes.{refusal_of};
-ghost use Rattle.vme_findings.specs.Verdicts.{IsVerdict, first_refusal, AreFindingsOf};
+ghost use Rattle.vme_findings.specs.Verdicts.{first_refusal, AreFindingsOf};
 
-use crate::cause::Cause;
+use crate::cause::{Cause, DocumentCause};
 use crate::collect::collect;
 use crate::finding::{Finding, find};
 use crate::warnings::warnings_of;
 use std::alloc::{AllocError, Global};
+use toml::Table;
+use toml::de::Error;
 use vme_positions::Place;
 use vme_script::{Config, ConfigFault};
 
@@ -21,31 +26,55 @@ use vme_script::{Config, ConfigFault};
 /// # Errors
 ///
 /// An allocation failed.
+#[tactic(auto, using(crate::proofs::Verdicts::not_a_document))]
 pub fn findings_of(alloc: Global, text: &[u8]) -> Result<Vec<Finding>, AllocError>
     ensures { IfOk result (λ findings. AreFindingsOf text.now findings.items) }
 {
-    match verdict(alloc, text)? {
-        Ok(config) => warnings_of(alloc, text, &config),
-        Err(fault) => errors_of(alloc, text, fault),
+    match toml::table_from_slice(alloc, text) {
+        Ok(table) => findings_in(alloc, text, &table),
+        Err(error) => {
+            let findings = not_toml(alloc, error)?;
+            Ok(findings)
+        }
     }
 }
 
-/// The configuration of a file, or its refusal.
-fn verdict(alloc: Global, text: &[u8]) -> Result<Result<Config, ConfigFault>, AllocError>
-    ensures { IfOk result (IsVerdict text.now) }
+/// The findings of a text that has been parsed.
+fn findings_in(alloc: Global, text: &[u8], table: &Table) -> Result<Vec<Finding>, AllocError>
+    requires text { IsUtf8 text.now }
+    requires document { parse_document text.now ≡ Some (table_view table.now) }
+    ensures { IfOk result (λ findings. AreFindingsOf text.now findings.items) }
 {
-    match Config::read(alloc, text) {
-        Ok(config) => Ok(Ok(config)),
+    match Config::of_document(alloc, table) {
+        Ok(config) => warnings_of(alloc, text, table, &config),
         Err(ConfigFault::OutOfMemory) => Err(AllocError),
-        Err(fault) => Ok(Err(fault)),
+        Err(fault) => errors_of(alloc, table, fault),
     }
 }
 
-/// The faults of a file with a refusal, which is the first of them.
-fn errors_of(alloc: Global, text: &[u8], fault: ConfigFault) -> Result<Vec<Finding>, AllocError>
+/// The finding of a text that is not TOML.
+fn not_toml(alloc: Global, error: Error) -> Result<Vec<Finding>, AllocError>
+    ensures { IfOk result (λ findings. (IsMemory error → ⊥)
+        × (first_refusal findings.items ≡ Some ConfigFault.NotToml)) }
+{
+    let Some(span) = error.span() else {
+        return Err(AllocError);
+    };
+    let place = Place::Bytes {
+        from: span.start,
+        to: span.end,
+    };
+    let mut findings = Vec::new(alloc);
+    let cause = Cause::Document(DocumentCause::NotToml { error });
+    find(&mut findings, cause, place)?;
+    Ok(findings)
+}
+
+/// The faults of a document with a refusal, which is the first of them.
+fn errors_of(alloc: Global, table: &Table, fault: ConfigFault) -> Result<Vec<Finding>, AllocError>
     ensures { IfOk result (λ findings. first_refusal findings.items ≡ Some fault) }
 {
-    let found = collect(alloc, text)?;
+    let found = collect(alloc, table)?;
     let first = first_finding(&found, fault);
     let mut findings = Vec::with_capacity(alloc, found.len())?;
     findings.push(first)?;

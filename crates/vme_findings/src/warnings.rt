@@ -18,23 +18,21 @@ use shared::{Uses, find_shared};
 use std::alloc::{AllocError, Global};
 use toml::Table;
 use turns::{Demand, FIRST_BOARD, find_turns};
-use vme_config_toml::{FileTable, file_values, table_of};
+use vme_config_toml::{FileTable, file_values};
 use vme_positions::{Key, Place, TableName};
 use vme_script::Config;
 
-/// The warnings of the configuration of a file.
+/// The warnings of the configuration of a file, with its text and its document.
 pub(crate) fn warnings_of(
     alloc: Global,
     text: &[u8],
+    table: &Table,
     config: &Config,
 ) -> Result<Vec<Finding>, AllocError>
     ensures { IfOk result (λ found. list_all is_warning found.items ≡ true) }
 {
     let mut warnings = Warnings::new(alloc);
-    match table_of(alloc, text) {
-        Ok(table) => find_in(alloc, text, &table, config, &mut warnings)?,
-        Err(_) => return Err(AllocError),
-    }
+    find_in(alloc, text, table, config, &mut warnings)?;
     Ok(warnings.into_findings())
 }
 

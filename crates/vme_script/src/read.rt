@@ -1,11 +1,14 @@
 //! Configurations read from the text of a file.
-ghost use Rattle.std.specs.Prelude.{◌≡◌, ◌≢◌, Err, IfOk, IsUtf8};
+ghost use Rattle.std.specs.Prelude.{◌≡◌, ◌≢◌, Some, Err, IfOk, IsUtf8};
 ghost use Rattle.toml.specs.Parse.{parse_document};
+ghost use Rattle.toml.specs.View.{table_view};
+ghost use Rattle.vme_script.specs.Answers.{Gives};
 ghost use Rattle.vme_script.specs.Readings.{configuration_in};
 
 use crate::config::Config;
 use crate::fault::ConfigFault;
 use std::alloc::Global;
+use toml::Table;
 use vme_config_toml::{file_values, table_of};
 
 impl Config {
@@ -25,7 +28,19 @@ impl Config {
             result ≡ Err ConfigFault.NotToml }
     {
         let table = table_of(alloc, text)?;
-        let file = file_values(alloc, &table)?;
+        Config::of_document(alloc, &table)
+    }
+
+    /// Returns the configuration of a TOML document, for a caller that has parsed the text.
+    ///
+    /// # Errors
+    ///
+    /// The first refusal in the order of `read`, without C6. `OutOfMemory`: an allocation failed.
+    #[tactic(auto, unfolding(crate::specs::Readings::configuration_in))]
+    pub fn of_document(alloc: Global, table: &Table) -> Result<Config, ConfigFault>
+        ensures { Gives (λ config. config) result (configuration_in (Some (table_view table.now))) }
+    {
+        let file = file_values(alloc, table)?;
         Config::of(alloc, &file)
     }
 }
