@@ -3,17 +3,21 @@ ghost use Rattle.std.specs.Prelude.{◌≡◌};
 
 use std::snapshot::Snapshot;
 
-/// The contents of the slot: the object and the number of entries in its history. There are 64
-/// unused bytes on each side, so that the word and other values lie on other cache lines.
+/// The contents of the slot: the object and the number of entries in its history. There are at
+/// least 48 unused bytes on each side and 128 between two slots, so that the word and other values
+/// lie on other cache lines.
+///
+/// A block of memory begins at any multiple of 16. The count stands right before the object, so that
+/// a call seldom needs two lines.
 #[derive(Drop)]
 #[repr(C)]
 pub struct Home<O> {
-    before: [u64; 8],
-    /// The object.
-    pub object: O,
+    before: [u64; 10],
     /// The number of entries in the object's history.
     pub count: u64,
-    after: [u64; 8],
+    /// The object.
+    pub object: O,
+    after: [u64; 6],
 }
 
 impl<O> Home<O> {
@@ -23,10 +27,10 @@ impl<O> Home<O> {
         ensures count { result.count ≡ 0 }
     {
         Home {
-            before: [0; 8],
-            object,
+            before: [0; 10],
             count: 0,
-            after: [0; 8],
+            object,
+            after: [0; 6],
         }
     }
 
@@ -36,8 +40,8 @@ impl<O> Home<O> {
     {
         let Home {
             before: _,
-            object,
             count,
+            object,
             after: _,
         } = self;
         (object, count)
