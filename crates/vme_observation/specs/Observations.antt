@@ -41,7 +41,7 @@ abbrev pub line_observed : Configuration → Machine → ℕ → Option (ℕ × 
 line_observed config machine board None = None
 line_observed config machine board (Some line) = observed_by config machine board line (line_to_do line.1)
 
--- what a turn of a board's processor does; nothing if no line is left
+-- what a turn of a board's processor does; nothing if it has no line left that makes a call
 abbrev pub observed : Configuration → StepperView → ℕ → Option Observation
 observed config stepper board = line_observed config stepper.machine board (line_of (stepper_begun config stepper board) board)
 

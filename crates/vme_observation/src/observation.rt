@@ -31,7 +31,7 @@ pub struct Observation {
 }
 
 /// Performs a turn of the processor of the board with index `board`. Returns what it did, or `None`
-/// if no line is left.
+/// if its processor has no line left that makes a call.
 pub fn observe_turn<'a>(
     stepper: &mut Stepper<'a>,
     config: &'a Config,
