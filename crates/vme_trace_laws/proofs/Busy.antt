@@ -77,7 +77,7 @@ holder_of (Some h) slot other first second = sym (eqb-true h slot first) ∙ eqb
 module _ (config : Configuration) (lawful : IsLawful config) where
   module _ (b : ℕ) (there : b < length config.boards) where
     -- BBSY* of a slot, by the arbiter
-    abbrev driven : Arbitration → Value
+    abbrev pub driven : Arbitration → Value
     driven bus = level_of (not (holds bus (slot_at config b)))
 
     -- BBSY* of a slot after an event with this grant and release, by the arbiter before it
@@ -201,7 +201,7 @@ module _ (config : Configuration) (lawful : IsLawful config) where
         ∙ step_shown before after o step
 
     -- BBSY* of the slot after some events
-    run_busy : (before : Machine) (events : List Observation) (after : Machine) (n : ℕ) → IsRunShown config before events after
+    pub run_busy : (before : Machine) (events : List Observation) (after : Machine) (n : ℕ) → IsRunShown config before events after
         → after_events (busy_line b) (length config.boards) n events (driven before.bus.object) ≡ driven after.bus.object
     run_busy before [] after n same = ap (λ (m : Machine). driven m.bus.object) (sym same)
     run_busy before (o ∷ events) after n run =

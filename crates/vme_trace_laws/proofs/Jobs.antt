@@ -37,6 +37,7 @@ use Rattle.vme_line_task.specs.Scripts.{Attempt, Transferring, Awaiting, Sharing
 use Rattle.vme_line_task.specs.Scripts as scripts
 use Rattle.vme_line_task.specs.Tables.{next_wants_retry}
 use Rattle.vme_line_task.specs.Machine.{attempt_fresh, attempt_anew, attempt_advance, attempt_to_do, attempts_again, line_fresh, line_started, line_advance, line_advanced, line_given}
+use Rattle.vme_trace_laws.proofs.Views.{current_view, attempt_view, line_view}
 
 module _ (board slot level : ℕ) where
   -- a transfer over the bus, of this slot and level
@@ -164,6 +165,32 @@ module _ (board slot level : ℕ) where
   sharing_own : (s : SharedJob) (refusal : Option CycleFault) → s.slot ≡ slot → s.level ≡ level → IsOwnLine (unless_refused (Sharing s) refusal)
   sharing_own s None slots levels = (slots, levels, first_own s slots levels)
   sharing_own s (Some fault) slots levels = tt
+
+  -- a transfer of its own slot and level is a job of these
+  own_transfer : (job : Job) → IsOwnTransfer job → IsOwnJob job
+  own_transfer (Bus job) own = own
+  own_transfer (Local job) own = absurd own
+
+  -- the transfer or the local command that a task is at is of this slot and level, or of this board
+  abbrev pub IsOwnView : Option TaskView → Type 0
+  IsOwnView None = Unit {0}
+  IsOwnView (Some t) = IsOwnJob t.job
+
+  -- the transfer of a lock or a mailbox
+  own_current : (current : CurrentTransfer) → IsOwnCurrent current → IsOwnView (current_view current)
+  own_current (currents.Running stage task) own = own_transfer task.job own
+  own_current (currents.Finished end) own = tt
+
+  -- the transfer or the local command of an attempt
+  own_attempt : (a : AttemptTask) → IsOwnAttempt a → IsOwnView (attempt_view a)
+  own_attempt (tries.Transfer t) own = own
+  own_attempt (tries.Await w) own = own_transfer w.task.job own
+  own_attempt (tries.Shared v) own = own_current v.current own.2
+
+  -- the transfer or the local command of a line
+  pub own_view : (task : LineTask) → IsOwnTask task → IsOwnView (line_view task)
+  own_view (Refused fault) own = tt
+  own_view (Running a) own = own_attempt a.attempt own
 
 -- the attempt of a processor's request to a lock or a mailbox is its own
 shared_own : (config : Configuration) (board : ℕ) (request : SharedRequest)

@@ -1,4 +1,6 @@
 pub mod Elements
+pub mod Views
+pub mod LineViews
 pub mod Jobs
 pub mod Turns
 pub mod Runs
@@ -8,3 +10,15 @@ pub mod Busy
 pub mod Numbers
 pub mod Holders
 pub mod Rests
+pub mod Data
+pub mod Arbiter
+pub mod Handshakes
+pub mod Phases
+pub mod Moves
+pub mod Tenures
+pub mod Goes
+pub mod Walks
+pub mod Orders
+pub mod AddressStrobes
+pub mod RunStrobes
+pub mod BusStrobes

@@ -17,7 +17,7 @@ use Rattle.vme_trace_laws.specs.Steps.{IsRunShown}
 use Rattle.vme_trace_laws.proofs.Turns.{IsTurnShown, turn_shown}
 
 -- the index of the board in a slot is that of a board
-place_below : (boards : List BoardConfig) (slot board : ℕ) → position (λ b. b.slot == slot) boards ≡ Some board → board < length boards
+pub place_below : (boards : List BoardConfig) (slot board : ℕ) → position (λ b. b.slot == slot) boards ≡ Some board → board < length boards
 place_below [] slot board found = absurd (cc found)
 place_below (first ∷ boards) slot board found = (position-Some (λ (b : BoardConfig). b.slot == slot) (first ∷ boards) board first found).0
 

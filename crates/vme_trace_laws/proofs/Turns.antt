@@ -51,7 +51,7 @@ use Rattle.vme_trace_laws.proofs.Elements.{get_set}
 use Rattle.vme_trace_laws.proofs.Jobs.{IsOwnTransfer, IsOwnJob, IsOwnCurrent, IsOwnAttempt, IsOwnTask, given_own}
 
 -- the call of a next step
-own_call : (a b : Call) → ◌≡◌ {A = NextStep Outcome} (Invokes a) (Invokes b) → a ≡ b
+pub own_call : (a b : Call) → ◌≡◌ {A = NextStep Outcome} (Invokes a) (Invokes b) → a ≡ b
 own_call a b same = cc
 
 module _ (board slot level : ℕ) where
@@ -144,7 +144,7 @@ module _ (board slot level : ℕ) where
   task_shown_as (Running a) call own made = attempt_shown a.left a.attempt call own made
 
 -- the processor of a script state is among those of all
-processors_get : (config : Configuration) (from b place : ℕ) (script_states : List ScriptState) → place ≡ from + b
+pub processors_get : (config : Configuration) (from b place : ℕ) (script_states : List ScriptState) → place ≡ from + b
     → slice_get (processors_from config from script_states) b ≡ option_map (processor_of config place) (slice_get script_states b)
 processors_get config from b place [] at = refl
 processors_get config from zero place (c ∷ script_states) at =
@@ -158,27 +158,27 @@ IsTurnShown config machine (Some o) after = IsStepShown config machine o after
 
 module _ (config : Configuration) (board : ℕ) (machine : Machine) where
   -- the machine after a next step
-  abbrev machine_by : NextStep LineReply → Machine
+  abbrev pub machine_by : NextStep LineReply → Machine
   machine_by (Invokes call) = (machine_step machine board call).0
   machine_by next = machine
 
   -- the machine after the call of a task, if there is one
-  abbrev machine_with : Option LineTask → Machine
+  abbrev pub machine_with : Option LineTask → Machine
   machine_with None = machine
   machine_with (Some task) = machine_by (line_to_do task)
 
   -- a task, if there is one, is that of a line after all that it was given
-  abbrev IsGiven : Option LineTask → Type 0
+  abbrev pub IsGiven : Option LineTask → Type 0
   IsGiven None = Unit {0}
   IsGiven (Some task) = (line : Line) × (given : Inputs) × (task ≡ line_given config board line given)
 
   -- a turn makes the call of the line that has begun
-  record Begins (after : Machine) (begun : ProcessorView) : Type 0 where
-    made : after ≡ machine_with begun.at
-    own : IsGiven begun.at
+  pub record Begins (after : Machine) (begun : ProcessorView) : Type 0 where
+    pub made : after ≡ machine_with begun.at
+    pub own : IsGiven begun.at
 
   -- a turn of a processor with these lines left makes the call of the line that has begun
-  abbrev LinesBegin : List Line → ProcessorView → Type 0
+  abbrev pub LinesBegin : List Line → ProcessorView → Type 0
   LinesBegin lines processor = Begins (lines_turn config board lines machine processor).0 (lines_begun config board lines processor)
 
   -- a turn by the next step of a task makes its call, or that of a line after it
@@ -207,7 +207,7 @@ module _ (config : Configuration) (board : ℕ) (machine : Machine) where
       (by_next processor task line (None ∷ []) (line_to_do task) lines refl refl (λ answer. idle_begins lines (processor_answered processor answer) refl))
 
   -- a turn of a processor whose next line has had these replies
-  lines_begin : (replies : List EventReply) (lines : List Line) (processor : ProcessorView) → processor.at ≡ task_at config board replies lines
+  pub lines_begin : (replies : List EventReply) (lines : List Line) (processor : ProcessorView) → processor.at ≡ task_at config board replies lines
       → LinesBegin lines processor
   lines_begin [] lines processor at = idle_begins lines processor at
   lines_begin (reply ∷ replies) [] processor at = idle_begins [] processor at
@@ -242,7 +242,7 @@ module _ (config : Configuration) (board : ℕ) (machine : Machine) where
   line_shown number (Some task) there own = next_shown number task own.0 own.1 (line_to_do task) there own.2 refl
 
 -- what a turn of a stepper did, by its processor
-observed_is : (config : Configuration) (board : ℕ) (stepper : StepperView) (processor : ProcessorView) → slice_get stepper.processors board ≡ Some processor
+pub observed_is : (config : Configuration) (board : ℕ) (stepper : StepperView) (processor : ProcessorView) → slice_get stepper.processors board ≡ Some processor
     → observed config stepper board ≡ line_observed config stepper.machine board (line_in (processor_begun config board processor))
 observed_is config board stepper processor found =
     ap (λ (p : Option ProcessorView). line_observed config stepper.machine board (line_of (stepper_begun_at config stepper board p) board)) found
@@ -250,7 +250,7 @@ observed_is config board stepper processor found =
     (get_set stepper.processors board (processor_begun config board processor) processor found)
 
 -- a turn without a processor does nothing
-observed_none : (config : Configuration) (board : ℕ) (stepper : StepperView) → slice_get stepper.processors board ≡ None → observed config stepper board ≡ None
+pub observed_none : (config : Configuration) (board : ℕ) (stepper : StepperView) → slice_get stepper.processors board ≡ None → observed config stepper board ≡ None
 observed_none config board stepper none =
     ap (λ (p : Option ProcessorView). line_observed config stepper.machine board (line_of (stepper_begun_at config stepper board p) board)) none
     ∙ ap (λ (p : Option ProcessorView). line_observed config stepper.machine board (option_and_then line_in p)) none

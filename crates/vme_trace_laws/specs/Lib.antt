@@ -1,3 +1,4 @@
 pub mod Steps
 pub mod Counts
 pub mod Values
+pub mod Transfers
