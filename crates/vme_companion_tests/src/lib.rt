@@ -1,5 +1,5 @@
-//! Tests of the libraries of `bendrika`: positions, findings, waveforms and lists of outcomes, with
-//! failed allocations. Without tests the crate is empty.
+//! Tests of the libraries of `bendrika`: positions, findings, waveforms, pages and lists of outcomes,
+//! with failed allocations. Without tests the crate is empty.
 #![tactic(auto)]
 
 #[cfg(test)]
@@ -12,6 +12,8 @@ mod damaged;
 mod listings;
 #[cfg(test)]
 mod outlines;
+#[cfg(test)]
+mod pages;
 #[cfg(test)]
 mod places;
 #[cfg(test)]

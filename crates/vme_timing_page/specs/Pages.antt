@@ -1,7 +1,6 @@
 -- The page of a run.
-use Rattle.std.specs.Prelude.{◌≡◌, ℕ, List, ◌++◌, Option}
+use Rattle.std.specs.Prelude.{ℕ, List, ◌++◌, Option}
 use Rattle.std.specs.Io.KnownBytes.{Appends}
-use Rattle.vme_io.specs.Prefixes.{AppendsPrefix}
 use Rattle.vme_script.specs.Configurations.{Configuration}
 use Rattle.vme_stepper.specs.Schedules.{file_turns}
 use Rattle.vme_stepper.specs.Reports.{run_text}

@@ -11,8 +11,6 @@ mod head;
 mod note;
 mod page;
 mod range;
-#[cfg(test)]
-mod tests;
 
 pub use engine::page_engine;
 pub use page::write_page;

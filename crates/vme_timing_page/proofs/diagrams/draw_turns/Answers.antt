@@ -1,9 +1,8 @@
 -- One more turn is made, or the writer fails in it.
 use Rattle.std.proofs.Common.{◌≡◌, ℕ, ◌<◌, ◌≤◌, ◌⊎◌, List, [], ◌∷◌, ◌++◌, length, refl, ap, sym, ◌∙◌, arith, rules, append_assoc, length-append}
-use Rattle.vme_io.specs.Prefixes.{AppendsPrefix, Gathers}
+use Rattle.vme_io.specs.Prefixes.{AppendsPrefix}
 use Rattle.vme_io.proofs.lemmas.Gathering.{so_far_more, so_far_fails}
 use Rattle.vme_stepper.specs.Turns.{board_in_slot}
-use Rattle.vme_stepper.specs.Schedules.{file_turns}
 use Rattle.vme_stepper.specs.Steppers.{stepper_of, stepper_turn_at}
 use Rattle.vme_stepper.proofs.lemmas.Runs.{turn_more, few_steps, file_few}
 use Rattle.vme_observation.specs.Observations.{observed_at, observed_from}

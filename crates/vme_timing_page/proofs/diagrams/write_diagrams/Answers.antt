@@ -1,4 +1,4 @@
-use Rattle.std.proofs.Common.{◌≡◌, ℕ, List, [], ◌++◌, sym, ap, subst, rules, ◌∙◌}
+use Rattle.std.proofs.Common.{◌≡◌, ℕ, List, [], ◌++◌, ap, subst, rules}
 use Rattle.vme_io.specs.Prefixes.{AppendsPrefix}
 use Rattle.vme_io.proofs.lemmas.Gathering.{so_far_written, so_far_unwritten}
 use Rattle.vme_timing_page.specs.Pages.{run_diagrams}
