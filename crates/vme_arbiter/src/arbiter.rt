@@ -6,7 +6,7 @@ ghost use Rattle.vme_arbiter.specs.Arbitration.{opening_bus, granted, holds, pen
 
 use crate::command::{ArbCmd, ArbReply};
 use crate::kind::ArbiterKind;
-use crate::levels::{HIGHEST, LEVELS, Request, level_of, next_request};
+use crate::levels::{HIGHEST, LEVELS, Request, are_same_levels, level_of, next_request};
 use crate::state::{ArbiterState, PLACES, are_in_range};
 use std::marker::Model;
 use vme_object::Object;
@@ -101,6 +101,28 @@ impl Arbiter {
         None
     }
 
+    /// Returns an arbiter in the same state.
+    pub fn copy(&self) -> Arbiter
+        ensures { result ≡ self.now }
+    {
+        Arbiter {
+            kind: self.kind,
+            first: self.first,
+            holder: self.holder,
+            levels: self.levels,
+        }
+    }
+
+    /// Returns `true` only if two arbiters are equal.
+    pub fn is_same(&self, other: &Arbiter) -> bool
+        ensures { IsTrue result → self.now ≡ other.now }
+    {
+        self.kind == other.kind
+            && self.first == other.first
+            && self.holder == other.holder
+            && are_same_levels(&self.levels, &other.levels)
+    }
+
     /// Whether a slot holds the bus.
     fn holds(&self, slot: u16) -> bool
         ensures { result ≡ holds self.now slot }
@@ -148,8 +170,8 @@ impl Arbiter {
         ArbReply::Waiting
     }
 
-    /// The step of `ArbCmd::Look`.
-    fn look(&self, slot: u16) -> ArbReply
+    /// Returns the reply to `ArbCmd::Look`, which leaves the arbiter as it is.
+    pub fn look(&self, slot: u16) -> ArbReply
         ensures { result ≡ (look_step self.now slot).1 }
     {
         if self.holds(slot) {

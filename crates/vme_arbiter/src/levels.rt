@@ -1,4 +1,4 @@
-ghost use Rattle.std.specs.Prelude.{◌≡◌, ◌≢◌, ◌<◌, ◌≤◌, ℕ, IsFalse, length, Some, IfSome, MatchOption, slice_get};
+ghost use Rattle.std.specs.Prelude.{◌≡◌, ◌≢◌, ◌<◌, ◌≤◌, ℕ, IsFalse, IsTrue, length, Some, IfSome, MatchOption, slice_get};
 ghost use Rattle.std.specs.Option.{option_map, option_and_then};
 ghost use Rattle.vme_arbiter.specs.Levels.{level_order};
 ghost use Rattle.vme_arbiter.specs.Grants.{HasNone, IsGreatest};
@@ -25,6 +25,21 @@ pub(crate) fn level_of(levels: &[Option<u8>], slot: u16) -> Option<u8>
         Some(level) => *level,
         None => None,
     }
+}
+
+/// Returns `true` only if two lists of levels are equal.
+pub(crate) fn are_same_levels(a: &[Option<u8>], b: &[Option<u8>]) -> bool
+    ensures { IsTrue result → a.now ≡ b.now }
+{
+    if a.len() != b.len() {
+        return false;
+    }
+    for i in 0..a.len() {
+        if a[i] != b[i] {
+            return false;
+        }
+    }
+    true
 }
 
 /// The request that the bus is granted to next, where `levels` has the level of each slot's pending

@@ -1,0 +1,9 @@
+use Rattle.vme_faults.proofs.Heads.{lines_first}
+use Rattle.vme_faults.proofs.Boards.{board_first}
+use Rattle.vme_faults.proofs.laws.the_first_is_reported.Goals as goal
+
+pub returns-clause-lines : goal.returns-clause-lines
+returns-clause-lines c = lines_first
+
+pub returns-clause-board : goal.returns-clause-board
+returns-clause-board c = board_first

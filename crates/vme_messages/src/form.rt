@@ -1,0 +1,62 @@
+//! The form in which findings are printed, and their counts.
+use std::alloc::{AllocError, Global};
+use std::fmt::Write;
+
+/// Which findings are printed, and in which form.
+#[derive(Clone, Copy, Debug, PartialEq, Eq)]
+pub struct Form {
+    /// A line with a JSON object for each finding, in place of text.
+    pub json: bool,
+    /// Nothing is printed.
+    pub quiet: bool,
+    /// Warnings are left out.
+    pub no_warnings: bool,
+    /// The greatest number of findings of an input that are printed; 0 is no limit.
+    pub limit: usize,
+}
+
+/// The numbers of errors and of warnings among findings.
+#[derive(Clone, Copy, Debug, PartialEq, Eq)]
+pub struct Counts {
+    pub errors: usize,
+    pub warnings: usize,
+}
+
+impl Counts {
+    /// No finding.
+    pub const NONE: Counts = Counts {
+        errors: 0,
+        warnings: 0,
+    };
+
+    /// Returns the counts of two inputs together. A sum stops at `usize::MAX`.
+    pub fn and(self, other: Counts) -> Counts {
+        Counts {
+            errors: self.errors.saturating_add(other.errors),
+            warnings: self.warnings.saturating_add(other.warnings),
+        }
+    }
+}
+
+/// Returns the last line of a report: how many errors there are, and how many warnings if the form
+/// has them.
+///
+/// # Errors
+///
+/// An allocation failed.
+pub fn summary(alloc: Global, counts: Counts, form: &Form) -> Result<String, AllocError> {
+    let mut to = String::new(alloc);
+    push_count(counts.errors, "error", &mut to)?;
+    if !form.no_warnings {
+        to.push_str(", ")?;
+        push_count(counts.warnings, "warning", &mut to)?;
+    }
+    to.push('\n')?;
+    Ok(to)
+}
+
+/// Appends a count and the word for what is counted, in the plural unless the count is 1.
+fn push_count(count: usize, thing: &str, to: &mut String) -> Result<(), AllocError> {
+    let plural = if count == 1 { "" } else { "s" };
+    write!(to, "{count} {thing}{plural}")
+}
