@@ -147,6 +147,7 @@ impl<'a> Plan<'a> {
     ///
     /// In a block, the address lines, A01 and LWORD* stay those of the first datum. A slave that
     /// increments the address senses the location of each datum.
+    #[inline(always)]
     #[tactic(auto, unfolding(crate::specs::Plans::signals_of))]
     pub fn signals(&self, i: u16) -> Signals
         requires { i < count_of self.now.request }
@@ -159,7 +160,8 @@ impl<'a> Plan<'a> {
     {
         let request = self.request();
         let bytes = request.datum(i);
-        let location = shown_location(self.location(0), self.location(i));
+        let own = self.location(i);
+        let location = self.shown(i, own);
         let read = bytes.is_none();
         let lines = match bytes {
             Some(bytes) => placed(self.am().wide(), location, bytes),
@@ -180,6 +182,28 @@ impl<'a> Plan<'a> {
         let location = self.location(0);
         let lines = place(location, bytes.as_slice());
         Signals::new(self.am(), request.addr(), location, false, lines)
+    }
+
+    /// The location whose strobes datum `i` shows, by the datum's own location.
+    #[inline(always)]
+    fn shown(&self, i: u16, own: Location) -> Location
+        requires in_count { i < count_of self.now.request }
+        requires own { own ≡ own_location self.now i }
+        requires found { location_for (address_of self.now.request i) (datum_len self.now.request)
+            ≡ Some own }
+        requires len { chosen_len self.now.am.wide own ≡ Some (datum_len self.now.request) }
+        requires lawful { IsLawful self.now.am self.now.request }
+        ensures first { location_for (address_of self.now.request 0) (datum_len self.now.request)
+            ≡ Some (own_location self.now 0) }
+        ensures strobes { (row_of result).strobes
+            ≡ shown_strobes (row_of (own_location self.now 0)).strobes (row_of own).strobes }
+        ensures lane { (row_of result).lane ≡ (row_of own).lane }
+        ensures len { (row_of result).len ≡ (row_of own).len }
+    {
+        if i == 0 {
+            return own;
+        }
+        shown_location(self.location(0), own)
     }
 
     /// The location of datum `i` on its own.
