@@ -5,11 +5,12 @@ use Rattle.std.specs.List.{list_all}
 use Rattle.vme_script.specs.declared.fault.ConfigFault.{ConfigFault}
 use Rattle.vme_script.specs.Configurations.{Configuration}
 use Rattle.vme_engines.specs.Files.{Configures}
-use Rattle.vme_findings.specs.declared.finding.Finding.{Finding}
-use Rattle.vme_findings.specs.declared.cause.Cause.{Cause}
-use Rattle.vme_findings.specs.declared.cause.Cause.TheVariants as causes
-use Rattle.vme_findings.specs.Causes.{refusal_of, severity_of}
-use Rattle.vme_findings.specs.Verdicts.{IsVerdict, Agree, AreFindingsOf, first_refusal, is_of_warning, is_warning}
+use Rattle.vme_faults.specs.declared.finding.Finding.{Finding}
+use Rattle.vme_faults.specs.declared.cause.Cause.{Cause}
+use Rattle.vme_faults.specs.declared.cause.Cause.TheVariants as causes
+use Rattle.vme_faults.specs.Causes.{refusal_of, severity_of}
+use Rattle.vme_faults.specs.Severities.{is_of_warning, is_warning}
+use Rattle.vme_findings.specs.Verdicts.{IsVerdict, Agree, AreFindingsOf, first_refusal}
 use Rattle.vme_check.specs.Answers.{IsAnswer}
 
 -- the first of two that are both true is true

@@ -1,7 +1,7 @@
 -- The refusals of request lines, when the findings of one line more are added.
 use Rattle.std.proofs.Common.{◌≡◌, ◌∙◌, ap, sym, List, [], ◌∷◌, ◌++◌, option_to_list}
 use Rattle.std.proofs.lemmas.List.{append_assoc, append-nil}
-use Rattle.vme_findings.specs.declared.finding.Finding.{Finding}
+use Rattle.vme_faults.specs.declared.finding.Finding.{Finding}
 use Rattle.vme_findings.specs.declared.request_line.RequestRefusal.{RequestRefusal}
 use Rattle.vme_findings.specs.Requests.{refusal_by}
 use Rattle.vme_check.specs.Requests.{refusals_by}

@@ -1,7 +1,7 @@
 -- The refusals of request lines by `vme cycles`.
 use Rattle.std.specs.Prelude.{ℕ, List, [], ◌∷◌, ◌++◌, option_to_list}
 use Rattle.vme_engines.specs.Lines.{request_of}
-use Rattle.vme_findings.specs.declared.finding.Finding.{Finding}
+use Rattle.vme_faults.specs.declared.finding.Finding.{Finding}
 use Rattle.vme_findings.specs.declared.request_line.RequestRefusal.{RequestRefusal}
 use Rattle.vme_findings.specs.Requests.{refusal_by, request_refusal}
 

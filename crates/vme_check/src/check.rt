@@ -5,13 +5,12 @@ ghost use Rattle.vme_findings.specs.Verdicts.{first_refusal};
 ghost use Rattle.vme_check.specs.Answers.{IsAnswer};
 ghost use Rattle.vme_engines.specs.Faults.{IsCyclesFault, ReadsWithin, is_read_failure, is_write_failure};
 
-use crate::form::{Counts, Form};
-use crate::located::Input;
 use crate::print::print_findings;
 use std::alloc::Global;
 use vme_engines::{FILE_LIMIT, ProgramFault, read_input};
 use vme_findings::{Finding, findings_of};
 use vme_io::{Sink, Source};
+use vme_messages::{Counts, Form, Input};
 use vme_positions::Outline;
 use vme_report::RunFault;
 use vme_script::ConfigFault;

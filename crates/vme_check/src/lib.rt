@@ -6,21 +6,12 @@
 #![tactic(auto)]
 
 mod check;
-mod context;
 mod cycles;
 mod device;
-mod excerpt;
-mod form;
-mod json;
-mod located;
-mod plain;
 mod print;
-mod report;
 mod requests;
-mod texts;
 
 pub use check::{CheckEnd, check_engine};
 pub use cycles::request_check_engine;
 pub use device::InputReader;
-pub use form::{Counts, Form, summary};
-pub use report::shown_name;
+pub use vme_messages::{Counts, Form, shown_name, summary};

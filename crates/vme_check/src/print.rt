@@ -2,12 +2,10 @@
 ghost use Rattle.std.specs.Prelude.{◌≡◌, ◌≤◌, false, true, IsTrue, IfErr};
 ghost use Rattle.vme_report.specs.Ends.{IsReportFault, is_write_end};
 
-use crate::form::{Counts, Form};
-use crate::located::{Input, Located};
-use crate::report::Report;
 use std::alloc::{AllocError, Global};
 use vme_findings::{Finding, Severity};
 use vme_io::{Sink, WRITE_SIZE, flush_if_full, write_all};
+use vme_messages::{Counts, Form, Input, Located, Report};
 use vme_report::RunFault;
 use vme_script::ConfigFault;
 

@@ -95,7 +95,12 @@ pub(crate) fn fault_within(
 }
 
 /// The cause of a refusal by the context of a line.
-fn context_fault(text: &[u8], line: &Line, fault: LineFault, around: &Surroundings<'_>) -> LocatedCause
+fn context_fault(
+    text: &[u8],
+    line: &Line,
+    fault: LineFault,
+    around: &Surroundings<'_>,
+) -> LocatedCause
     ensures { line_fault result.cause ≡ Some fault }
 {
     match fault {

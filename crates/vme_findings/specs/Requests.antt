@@ -3,11 +3,11 @@ use Rattle.std.specs.Prelude.{option_map, Option, Some, None, Result, Ok, Err}
 use Rattle.vme_cycle.specs.declared.request.Request.{Request}
 use Rattle.vme_cycle.specs.Lawful.{first_refusal}
 use Rattle.vme_grammar.specs.declared.fault.LineFault.{LineFault}
-use Rattle.vme_findings.specs.declared.cause.Cause.{Cause}
-use Rattle.vme_findings.specs.declared.cause.Cause.TheVariants as causes
+use Rattle.vme_faults.specs.declared.cause.Cause.{Cause}
+use Rattle.vme_faults.specs.declared.cause.Cause.TheVariants as causes
 use Rattle.vme_findings.specs.declared.request_line.RequestRefusal.{RequestRefusal}
 use Rattle.vme_findings.specs.declared.request_line.RequestRefusal.TheVariants.{Line, Cycle}
-use Rattle.vme_findings.specs.Causes.{line_fault, cycle_fault}
+use Rattle.vme_faults.specs.Causes.{line_fault, cycle_fault}
 
 -- the refusal of a request line by its cause; a warning, and a fault of a file, have none
 abbrev pub refusal_by : Cause → Option RequestRefusal

@@ -1,13 +1,12 @@
 -- The findings of a file, and how they relate to its refusal.
-use Rattle.std.specs.Prelude.{◌≡◌, ℕ, List, [], ◌∷◌, Bool, true, false, Option, Some, None, Result, Ok, Err}
+use Rattle.std.specs.Prelude.{◌≡◌, ℕ, List, [], ◌∷◌, true, Option, Some, None, Result, Ok, Err}
 use Rattle.std.specs.List.{list_all}
 use Rattle.vme_script.specs.declared.fault.ConfigFault.{ConfigFault}
 use Rattle.vme_script.specs.Configurations.{Configuration}
 use Rattle.vme_engines.specs.Files.{Configures, IsRefusedAs}
-use Rattle.vme_findings.specs.declared.cause.Severity.{Severity}
-use Rattle.vme_findings.specs.declared.cause.Severity.TheVariants.{Error, Warning}
-use Rattle.vme_findings.specs.declared.finding.Finding.{Finding}
-use Rattle.vme_findings.specs.Causes.{refusal_of, severity_of}
+use Rattle.vme_faults.specs.declared.finding.Finding.{Finding}
+use Rattle.vme_faults.specs.Causes.{refusal_of}
+use Rattle.vme_faults.specs.Severities.{is_warning}
 
 -- the bytes of a file are this configuration, or have this refusal
 abbrev pub IsVerdict : List ℕ → Result Configuration ConfigFault → Type 0
@@ -18,15 +17,6 @@ IsVerdict input (Err fault) = IsRefusedAs input fault
 abbrev pub first_refusal : List Finding → Option ConfigFault
 first_refusal [] = None
 first_refusal (finding ∷ more) = refusal_of finding.cause
-
--- whether a severity is that of a warning
-abbrev pub is_of_warning : Severity → Bool
-is_of_warning Error = false
-is_of_warning Warning = true
-
--- whether a finding is a warning
-abbrev pub is_warning : Finding → Bool
-is_warning finding = is_of_warning (severity_of finding.cause)
 
 -- findings of a file that is this configuration, or has this refusal: a configuration has warnings alone, and another
 -- file begins with its refusal

@@ -3,17 +3,14 @@ ghost use Rattle.std.specs.Prelude.{◌≡◌, ◌++◌, List, Some, IfOk, IsUtf
 ghost use Rattle.toml.specs.Errors.{IsMemory};
 ghost use Rattle.toml.specs.Parse.{parse_document};
 ghost use Rattle.toml.specs.View.{table_view};
-ghost use Rattle.vme_findings.specs.declared.finding.Finding.{Finding};
-ghost use Rattle.vme_findings.specs.Causes.{refusal_of};
+ghost use Rattle.vme_faults.specs.declared.finding.Finding.{Finding};
+ghost use Rattle.vme_faults.specs.Causes.{refusal_of};
 ghost use Rattle.vme_findings.specs.Verdicts.{first_refusal, AreFindingsOf};
 
-use crate::cause::{Cause, DocumentCause};
-use crate::collect::collect;
-use crate::finding::{Finding, find};
-use crate::warnings::warnings_of;
 use std::alloc::{AllocError, Global};
 use toml::Table;
 use toml::de::Error;
+use vme_faults::{Cause, DocumentCause, Finding, faults_of, find, warnings_of};
 use vme_positions::Place;
 use vme_script::{Config, ConfigFault};
 
@@ -74,7 +71,7 @@ fn not_toml(alloc: Global, error: Error) -> Result<Vec<Finding>, AllocError>
 fn errors_of(alloc: Global, table: &Table, fault: ConfigFault) -> Result<Vec<Finding>, AllocError>
     ensures { IfOk result (λ findings. first_refusal findings.items ≡ Some fault) }
 {
-    let found = collect(alloc, table)?;
+    let found = faults_of(alloc, table)?;
     let first = first_finding(&found, fault);
     let mut findings = Vec::with_capacity(alloc, found.len())?;
     findings.push(first)?;

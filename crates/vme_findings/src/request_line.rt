@@ -4,18 +4,16 @@ ghost use Rattle.std.specs.Option.{option_and_then, option_map_or};
 ghost use Rattle.vme_cycle.specs.Lawful.{first_refusal};
 ghost use Rattle.vme_lexer.specs.Words.{words_of};
 ghost use Rattle.vme_engines.specs.Lines.{is_request_word, is_other_word, request_of};
-ghost use Rattle.vme_findings.specs.Causes.{line_fault};
+ghost use Rattle.vme_faults.specs.Causes.{line_fault};
+ghost use Rattle.vme_faults.specs.Severities.{is_warning};
 ghost use Rattle.vme_findings.specs.Requests.{refusal_by, request_refusal};
-ghost use Rattle.vme_findings.specs.Verdicts.{is_warning};
 
-use crate::cause::{Cause, LineCause};
-use crate::cycle::{cycle_cause, faulty_word, parts_of};
-use crate::fields::{Located, cause_of};
-use crate::finding::Finding;
-use crate::form::form_of;
-use crate::words::{Span, span_of};
 use vme_am::Space;
 use vme_cycle::{CycleFault, Plan, Request};
+use vme_faults::{
+    Cause, Finding, LineCause, LocatedCause, WordSpan, cause_of, faulty_word, form_of,
+    request_cause, span_of,
+};
 use vme_grammar::{LINE_LIMIT, Line, LineFault, parse_line};
 use vme_lexer::first_word;
 use vme_positions::Place;
@@ -45,14 +43,14 @@ pub fn request_finding(line: &[u8], number: usize) -> Option<Finding>
         Ok(Some(request)) => cycle_finding(line, number, &request),
         Ok(None) => None,
         Err(fault) => {
-            let located = request_cause(line, fault);
+            let located = line_cause(line, fault);
             Some(finding_at(number, located.span, Cause::RequestLine(located.cause)))
         }
     }
 }
 
 /// A finding at the bytes of a line.
-fn finding_at(number: usize, span: Span, cause: Cause) -> Finding
+fn finding_at(number: usize, span: WordSpan, cause: Cause) -> Finding
     ensures { result.cause ≡ cause }
 {
     Finding {
@@ -103,7 +101,7 @@ fn is_request_word(word: &[u8]) -> bool
 }
 
 /// The cause of a request line's refusal. A command of scripts is named as one.
-fn request_cause(line: &[u8], fault: LineFault) -> Located
+fn line_cause(line: &[u8], fault: LineFault) -> LocatedCause
     ensures { line_fault result.cause ≡ Some fault }
 {
     match fault {
@@ -113,11 +111,11 @@ fn request_cause(line: &[u8], fault: LineFault) -> Located
 }
 
 /// The cause of an unknown first word.
-fn unknown_command(line: &[u8]) -> Located
+fn unknown_command(line: &[u8]) -> LocatedCause
     ensures { line_fault result.cause ≡ Some LineFault.UnknownWord }
 {
     match form_of(line) {
-        Some(form) => Located {
+        Some(form) => LocatedCause {
             cause: LineCause::ScriptCommand { form },
             span: span_of(line, 0),
         },
@@ -144,7 +142,7 @@ fn cycle_finding(line: &[u8], number: usize, request: &Request) -> Option<Findin
             Some(finding_at(number, span_of(line, word), Cause::RequestBoard))
         }
         Err(fault) => {
-            let cause = cycle_cause(&parts_of(request), fault);
+            let cause = request_cause(request, fault);
             let span = span_of(line, faulty_word(cause));
             Some(finding_at(number, span, Cause::RequestCycle(cause)))
         }

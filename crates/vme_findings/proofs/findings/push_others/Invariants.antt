@@ -1,5 +1,5 @@
 use Rattle.std.proofs.Common.{◌≡◌, ◌++◌, List}
-use Rattle.vme_findings.specs.declared.finding.Finding.{Finding}
+use Rattle.vme_faults.specs.declared.finding.Finding.{Finding}
 use Rattle.vme_findings.proofs.findings.push_others.Given as goal
 
 -- findings were appended

@@ -1,0 +1,4 @@
+pub mod Heads
+pub mod Boards
+pub mod Severities
+pub mod Scripts

@@ -1,0 +1,4 @@
+pub mod Causes
+pub mod Severities
+pub mod Boards
+pub mod Lines

@@ -1,9 +1,0 @@
-use Rattle.vme_findings.proofs.Heads.{lines_first}
-use Rattle.vme_findings.proofs.Boards.{board_first}
-use Rattle.vme_findings.proofs.laws.the_first_is_reported.Goals as goal
-
-pub returns-clause-lines : goal.returns-clause-lines
-returns-clause-lines c = lines_first
-
-pub returns-clause-board : goal.returns-clause-board
-returns-clause-board c = board_first
