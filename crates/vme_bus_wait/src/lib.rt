@@ -5,8 +5,6 @@
 
 mod counts;
 mod sleeper;
-#[cfg(test)]
-mod tests;
 mod wait_state;
 mod waiters;
 

@@ -1,5 +1,5 @@
-//! Tests of the libraries of `bendrika`: positions, findings, waveforms, pages and lists of outcomes,
-//! with failed allocations. Without tests the crate is empty.
+//! Tests of the libraries of `bendrika`: positions, findings, waveforms, pages, searches and lists of
+//! outcomes, with failed allocations. Without tests the crate is empty.
 #![tactic(auto)]
 
 #[cfg(test)]
@@ -20,6 +20,8 @@ mod places;
 mod printed;
 #[cfg(test)]
 mod requests;
+#[cfg(test)]
+mod searches;
 #[cfg(test)]
 mod states;
 #[cfg(test)]
