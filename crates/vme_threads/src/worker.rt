@@ -15,6 +15,10 @@ use vme_report::RunFault;
 use vme_script::{Config, Script};
 use vme_shared::LineReply;
 
+/// The places behind the counts of a processor. They keep the counts of two processors out of
+/// neighbouring lines of a cache, which processors pass on in pairs of 64 bytes.
+const COUNTS_APART: usize = 32;
+
 /// A processor before its script: its pass, a buffer for what each line reads, and a buffer for
 /// the replies.
 #[derive(Drop)]
@@ -58,7 +62,8 @@ impl Worker {
         ensures lines_capacity { IfOk result (λ w. length script.now ≤ vec_capacity w.lines) }
         ensures buffers { IfOk result (λ w. w.buffers ≡ buffers_of script.now) }
     {
-        let made = vec![in alloc; 0u64; boards + 1]?;
+        let mut made = vec![in alloc; 0u64; boards + 1]?;
+        made.reserve(COUNTS_APART)?;
         let lines = Vec::with_capacity(alloc, script.len())?;
         let buffers = ReadBuffers::new(alloc, script)?;
         let processor_pass = ProcessorPass {
