@@ -110,7 +110,8 @@ impl Diagram {
     ///
     /// An allocation failed.
     pub fn print_end(&mut self, text: &mut Vec<u8>) -> Result<(), AllocError>
-        ensures { OnOk result (text.new.items ≡ text.old.items ++ closing self.old.column) }
+        ensures text { OnOk result (text.new.items ≡ text.old.items ++ closing self.old.column) }
+        ensures after { self.new ≡ record self.old { column = 0 } }
     {
         let column = self.column;
         self.column = 0;
