@@ -3,3 +3,4 @@ pub mod Listings
 pub mod Outputs
 pub mod Written
 pub mod Consequences
+mod Parts

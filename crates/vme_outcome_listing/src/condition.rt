@@ -1,10 +1,10 @@
 //! Conditions on the outcomes.
 ghost use Rattle.std.specs.Prelude.{◌≡◌, ◌++◌, IfOk, OnOk, map, option_map};
 ghost use Rattle.std.specs.List.{list_any};
-ghost use Rattle.std.specs.Str.{bytes_eq};
+ghost use Rattle.std.specs.Str.{bytes_eq, trim};
 ghost use Rattle.std.specs.Str.Lines.{lines};
 ghost use Rattle.vme_outcome_listing.specs.ListedTexts.{shown};
-ghost use Rattle.vme_outcome_listing.specs.Conditions.{has_lines, breaks, first_breaking, kind_text, wanted_text, verdict_text};
+ghost use Rattle.vme_outcome_listing.specs.Conditions.{has_lines, breaks, first_breaking, kind_text, wanted_text, verdict_text, parts_of};
 ghost use Rattle.vme_grammar.specs.Texts.{output_line};
 
 use crate::paragraph::Paragraph;
@@ -42,12 +42,10 @@ impl<'a> Condition<'a> {
     /// Returns the condition on the lines of a text, which are separated by `;`. Spaces around a
     /// line are left out.
     pub fn new(alloc: Global, kind: Kind, text: &'a str) -> Result<Condition<'a>, AllocError>
-        ensures { IfOk result (λ condition. condition.kind ≡ kind) }
+        ensures kind { IfOk result (λ condition. condition.kind ≡ kind) }
+        ensures wanted { IfOk result (λ condition. condition.wanted ≡ map trim (parts_of text.now)) }
     {
-        let mut wanted = Vec::new(alloc);
-        for line in text.split(';') {
-            wanted.push(line.trim())?;
-        }
+        let wanted = lines_wanted(alloc, text)?;
         Ok(Condition { kind, wanted })
     }
 
@@ -96,6 +94,20 @@ impl<'a> Condition<'a> {
         append_wanted(self.wanted(), text)?;
         append_verdict(breaking, text)
     }
+}
+
+/// Returns the parts of a text that are separated by `;`, without the spaces around each.
+fn lines_wanted(alloc: Global, text: &str) -> Result<Vec<&str>, AllocError>
+    ensures { IfOk result (λ lines. map (λ line. line.now) lines.items ≡ map trim (parts_of text.now)) }
+{
+    let mut lines = Vec::new(alloc);
+    let mut rest = text;
+    while let Some((line, more)) = rest.split_once(';') {
+        lines.push(line.trim())?;
+        rest = more;
+    }
+    lines.push(rest.trim())?;
+    Ok(lines)
 }
 
 /// Appends the word of a kind.
