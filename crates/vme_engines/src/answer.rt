@@ -1,9 +1,9 @@
 //! The output of `vme cycles` for a line, and the effect of the line on the board.
 ghost use Rattle.std.specs.Prelude.{ℕ, ◌≡◌, ◌+◌, ◌++◌, ◌<◌, ◌≤◌, length, Some, IfOk, IfSome, OnOk};
 ghost use Rattle.vme_cycle.specs.BlockBuffers.{block_limit};
-ghost use Rattle.vme_cycle.specs.Requests.{addr_of, function_of, datum_len, count_of, address_of};
-ghost use Rattle.vme_cycle.specs.SignalLines.{row_len, len_at};
-ghost use Rattle.vme_cycle.specs.Plans.{signals_of};
+ghost use Rattle.vme_cycle.specs.Lawful.{IsLawfulTransfer};
+ghost use Rattle.vme_cycle.specs.Requests.{addr_of, function_of, datum_len, count_of};
+ghost use Rattle.vme_cycle.specs.SignalLines.{row_len};
 ghost use Rattle.vme_memory.specs.Steps.{HasLen};
 ghost use Rattle.vme_grammar.specs.Texts.{outcome_text, output_line};
 ghost use Rattle.vme_engines.specs.Answers.{outcome_of, final_signals, offset_of, reply_at, reply_to, write_half_text, datum_text, transfer_answer, request_answer, answer};
@@ -15,7 +15,7 @@ use vme_cycle::{BlockBuffer, Plan, Request, Signals};
 use vme_grammar::{
     print_berr, print_done, print_line_refusal, print_old, print_read, print_refusal, print_signals,
 };
-use vme_memory::Reply;
+use vme_memory::{Access, Reply};
 use vme_shared::Status;
 
 /// Processes a line: appends its output, and leaves the board as the line's cycles do. `replied` is
@@ -75,7 +75,8 @@ fn answer_data(
     replied: &mut BlockBuffer,
     text: &mut Vec<u8>,
 ) -> Result<Status, AllocError>
-    requires { block_limit ≤ replied.old.capacity }
+    requires lawful { IsLawfulTransfer plan.now }
+    requires capacity { block_limit ≤ replied.old.capacity }
     ensures capacity { replied.new.capacity ≡ replied.old.capacity }
     ensures text { OnOk result (text.new.items
         ≡ text.old.items ++ (transfer_answer bus.old plan.now).text) }
@@ -118,6 +119,7 @@ fn answer_datum(
     offset: Option<u32>,
     text: &mut Vec<u8>,
 ) -> Result<Reply, AllocError>
+    requires lawful { IsLawfulTransfer plan.now }
     requires in_count { i < count_of plan.now.request }
     requires offset { offset ≡ offset_of plan.now }
     requires within { IfSome offset (λ offset.
@@ -129,7 +131,7 @@ fn answer_datum(
     ensures len { IfOk result (λ reply. HasLen reply (datum_len plan.now.request)) }
 {
     let signals = plan.signals(i);
-    let reply = reply_at(bus, plan, i, offset, &signals);
+    let reply = reply_at(bus, plan, i, offset);
     print_signals(text, &final_signals(signals, &reply))?;
     print_write_half(text, plan, &reply)?;
     Ok(reply)
@@ -179,12 +181,10 @@ fn final_signals(signals: Signals, reply: &Reply) -> Signals
 }
 
 /// The reply to datum `i`: that of the board if it is selected, otherwise the bus error of the bus
-/// timer.
-fn reply_at(bus: &mut Bus, plan: &Plan<'_>, i: u16, offset: Option<u32>, signals: &Signals) -> Reply
-    requires signals { signals.now ≡ signals_of plan.now i }
+/// timer. The board takes the datum without the signals of its cycle.
+fn reply_at(bus: &mut Bus, plan: &Plan<'_>, i: u16, offset: Option<u32>) -> Reply
+    requires lawful { IsLawfulTransfer plan.now }
     requires in_count { i < count_of plan.now.request }
-    requires len { len_at signals.now (address_of plan.now.request i)
-        ≡ Some (datum_len plan.now.request) }
     requires within { IfSome offset (λ offset.
         (offset < 4096) × (offset ≡ addr_of plan.now.request)) }
     ensures reply { result ≡ (reply_at bus.old plan.now i offset).0 }
@@ -195,5 +195,5 @@ fn reply_at(bus: &mut Bus, plan: &Plan<'_>, i: u16, offset: Option<u32>, signals
         return Reply::Berr;
     };
     let at = offset + u32::from(i) * u32::from(plan.datum_len());
-    bus.cycle(signals, at, plan.modify())
+    bus.access(&Access::of_datum(plan.request(), i, at))
 }

@@ -1,14 +1,14 @@
 //! The bus of `vme cycles`: one board, and the address map that contains only it.
-ghost use Rattle.std.specs.Prelude.{ℕ, ◌≡◌, ◌<◌, Some, IfOk, IfSome};
+ghost use Rattle.std.specs.Prelude.{◌≡◌, ◌<◌, Some, IfOk, IfSome};
 ghost use Rattle.std.specs.Option.{option_map};
 ghost use Rattle.vme_engines.specs.Cycles.{fresh_board};
 
 use std::alloc::{AllocError, Global};
 use std::marker::Model;
 use vme_am::Space;
-use vme_cycle::{Modify, Signals};
+use vme_cycle::Signals;
 use vme_decode::{AddressMap, Entry};
-use vme_memory::{ByteMemory, Class, Reply, Width8To32};
+use vme_memory::{Access, ByteMemory, Class, Reply, Width8To32};
 
 /// The size of the board in bytes. It begins at address 0 of the extended space.
 const BOARD_SIZE: u32 = 4096;
@@ -33,9 +33,10 @@ impl Model for Bus {
 }
 
 impl Bus {
-    ghost use Rattle.vme_cycle.specs.SignalLines.{first_byte, len_at};
+    ghost use Rattle.vme_cycle.specs.SignalLines.{first_byte};
     ghost use Rattle.vme_decode.specs.Select.{selection};
-    ghost use Rattle.vme_memory.specs.Steps.{cycle, HasLen};
+    ghost use Rattle.vme_memory.specs.Access.{accessed};
+    ghost use Rattle.vme_memory.specs.Steps.{step};
     ghost use Rattle.vme_engines.specs.Answers.{board_map};
 
     /// A bus whose board is all zero.
@@ -59,16 +60,12 @@ impl Bus {
         Some(offset)
     }
 
-    /// The board's reply to a cycle whose first byte has the offset `at`. A read-modify-write
-    /// gives its function as `f`.
-    pub(crate) fn cycle(&mut self, signals: &Signals, at: u32, f: Option<&Modify>) -> Reply
-        ensures reply { result
-            ≡ (cycle self.old signals.now at (option_map (λ f. f.now) f.entry)).0 }
-        ensures board { self.new
-            ≡ (cycle self.old signals.now at (option_map (λ f. f.now) f.entry)).1 }
-        ensures len { (len : ℕ) → len_at signals.now at ≡ Some len → HasLen result len }
+    /// The board's reply to one datum of a transfer.
+    pub(crate) fn access(&mut self, access: &Access<'_>) -> Reply
+        ensures reply { result ≡ (step self.old (accessed access.now)).0 }
+        ensures board { self.new ≡ (step self.old (accessed access.now)).1 }
     {
-        self.memory.cycle(signals, at, f)
+        self.memory.access(access)
     }
 }
 
