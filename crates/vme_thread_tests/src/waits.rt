@@ -118,6 +118,9 @@ enum Waking {
 /// The number of rounds without a release after which the sleepers are first woken.
 const STILL_ROUNDS: u64 = 8;
 
+/// The number of rounds without a release after which the last processor awake sleeps.
+const LONG_STILL_ROUNDS: u64 = 64;
+
 /// The longest sleep, in milliseconds. A sleep that no other processor ends takes this long.
 const LONGEST: u64 = 10;
 
@@ -128,19 +131,29 @@ const SLEEPS: u64 = 400;
 /// the release comes just before them.
 const SHORT_SLEEPS: u64 = 5;
 
-/// Waits for a flag, and returns how long the last round took.
+/// What the sleeper and the processor that wakes it share.
+#[derive(Drop)]
+struct Meeting {
+    /// Whether the sleeper has to end.
+    sign: AtomicBool,
+    /// The number of rounds that the sleeper has begun.
+    rounds: AtomicU64,
+}
+
+/// Waits for the sign, and returns how long the last round took.
 fn last_round<R: Wait + Clock>(
     rt: &R,
     waiters: &BusWaiters,
-    sign: &AtomicBool,
+    meeting: &Meeting,
 ) -> io::Result<Duration> {
     let mut wait_state = WaitState::new();
     let mut last = Duration::from_millis(LONGEST);
     for _ in rt.forever() {
         let seen = waiters.releases();
-        if sign.load(Ordering::SeqCst) {
+        if meeting.sign.load(Ordering::SeqCst) {
             break;
         }
+        meeting.rounds.fetch_add(1, Ordering::SeqCst);
         let start = Instant::now(rt)?;
         waiters.wait(rt, 0, seen, &mut wait_state);
         last = start.elapsed(rt)?;
@@ -149,16 +162,17 @@ fn last_round<R: Wait + Clock>(
     Ok(last)
 }
 
-/// Lets the other processor sleep for a millisecond, sets the flag, and wakes that processor.
-fn wake<R: Wait + Clock>(rt: &R, waiters: &BusWaiters, sign: &AtomicBool, waking: Waking) {
+/// Lets the other processor begin a round in which it sleeps, and sleep for a millisecond. Then sets
+/// the sign and wakes that processor.
+fn wake<R: Wait + Clock>(rt: &R, waiters: &BusWaiters, meeting: &Meeting, waking: Waking) {
     for _ in rt.forever() {
-        if waiters.counts.asleep() > 0 && waiters.counts.awake() == 0 {
+        if meeting.rounds.load(Ordering::SeqCst) > LONG_STILL_ROUNDS {
             break;
         }
         thread::yield_now();
     }
     thread::sleep(rt, Duration::from_millis(1));
-    sign.store(true, Ordering::SeqCst);
+    meeting.sign.store(true, Ordering::SeqCst);
     let mut wait_state = WaitState::new();
     match waking {
         Waking::Release => waiters.release(&mut wait_state),
@@ -177,11 +191,14 @@ fn woken_after<R: Threads + Wait + Clock + Sync>(
     waiters: &BusWaiters,
     waking: Waking,
 ) -> io::Result<Duration> {
-    let sign = AtomicBool::new(false);
+    let meeting = Meeting {
+        sign: AtomicBool::new(false),
+        rounds: AtomicU64::new(0),
+    };
     join(
         rt,
-        || last_round(rt, waiters, &sign),
-        || wake(rt, waiters, &sign, waking),
+        || last_round(rt, waiters, &meeting),
+        || wake(rt, waiters, &meeting, waking),
     )
     .0
 }
