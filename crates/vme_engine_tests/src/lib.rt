@@ -1,5 +1,6 @@
 //! Tests of the three engines with devices that fail at any byte, damaged or refused files, and
-//! failed allocations, apart from `vme_engines` so that its proofs are not repeated.
+//! failed allocations, and of the uses in `vme_uses`, apart from these crates so that their proofs
+//! are not repeated.
 #![tactic(auto)]
 
 #[cfg(test)]
@@ -34,5 +35,7 @@ mod support;
 mod surface;
 #[cfg(test)]
 mod surface_runs;
+#[cfg(test)]
+mod uses;
 #[cfg(test)]
 mod words;

@@ -33,6 +33,4 @@ pub mod shared;
 pub mod slave;
 pub mod states;
 pub mod stepper;
-#[cfg(test)]
-mod tests;
 pub mod threads;

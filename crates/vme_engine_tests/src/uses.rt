@@ -1,11 +1,7 @@
-//! Each use, run once, except those of `vme_port_array`, `vme_sequential` and `vme_outcomes`.
+//! Each use of `vme_uses`, run once, except those of `vme_port_array`, `vme_sequential` and
+//! `vme_outcomes`.
 ghost use Rattle.std.specs.Prelude.{◌==◌, true, false, if◌then◌else◌};
 
-use crate::{
-    am, arbiter, bus_objects, bus_wait, config_toml, cores, cycle, decode, devices, engines,
-    explore, grammar, lanes, lexer, line_task, mailbox_laws, master, memory, object, port, report,
-    run_laws, runner, script, shared, slave, states, stepper, threads,
-};
 use std::alloc::{AllocError, Global};
 use std::test::Fail;
 use vme_am::{Am, Space};
@@ -22,6 +18,11 @@ use vme_port::Port;
 use vme_runner::{Gate, Status};
 use vme_script::{Config, Line};
 use vme_shared::SharedTodo;
+use vme_uses::{
+    am, arbiter, bus_objects, bus_wait, config_toml, cores, cycle, decode, devices, engines,
+    explore, grammar, lanes, lexer, line_task, mailbox_laws, master, memory, object, port, report,
+    run_laws, runner, script, shared, slave, states, stepper, threads,
+};
 
 static FILE: &str = "[[board]]
 slot = 2
