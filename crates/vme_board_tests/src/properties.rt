@@ -56,9 +56,7 @@ fn shown(signals: &Signals) -> Seen {
 /// any.
 fn check_lines(rt: &impl Abort, am: Am, addr: u32, pattern: u8, write: bool) {
     let strobes = strobes_of(pattern);
-    let lines = DataLines {
-        lanes: [Some(pattern); 8],
-    };
+    let lines = DataLines::of([Some(pattern); 8]);
     assert!(rt; addr % 4 == 0 && u64::from(addr) < am.space().addresses());
     let made = Signals::from_lines(am, addr, strobes, write, lines);
     let selected = SELECTED.get(usize::from(pattern)).expect(rt, "no pattern");
@@ -127,7 +125,7 @@ fn carried(location: Location, lines: DataLines) -> Datum {
 fn check_data(rt: &impl Abort, signals: Signals, reads: bool, bytes: &[u8]) {
     let lines = signals.lines();
     if reads {
-        assert_eq!(rt; lines, DataLines::IDLE);
+        assert_eq!(rt; lines, DataLines::idle());
     } else {
         assert_eq!(rt; carried(signals.location(), lines).as_slice(), bytes);
     }
@@ -197,7 +195,7 @@ static LANES: [(Location, [u8; 4]); 10] = [
 
 /// Returns the bytes on the data lanes from D31-D24 to D07-D00, zero for one that carries nothing.
 fn lower_lanes(lines: &DataLines) -> [u8; 4] {
-    let [_, _, _, _, first, second, third, last] = lines.lanes;
+    let [_, _, _, _, first, second, third, last] = lines.lanes();
     [
         first.unwrap_or(0),
         second.unwrap_or(0),

@@ -165,7 +165,7 @@ impl<'a> Plan<'a> {
         let read = bytes.is_none();
         let lines = match bytes {
             Some(bytes) => placed(self.am().wide(), location, bytes),
-            None => DataLines::IDLE,
+            None => DataLines::idle(),
         };
         Signals::new(self.am(), request.addr(), location, read, lines)
     }

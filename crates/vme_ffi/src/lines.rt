@@ -49,9 +49,7 @@ fn sensed(lines: &VmeLines, am: Am) -> Option<Signals>
     requires in_space { lines.now.addr < addresses_of am.space }
     ensures { result ≡ sensed lines.now am }
 {
-    let data = DataLines {
-        lanes: lanes_of(&lines.lanes),
-    };
+    let data = DataLines::of(lanes_of(&lines.lanes));
     let write = level_of(lines.write);
     Signals::from_lines(am, lines.addr, strobes_of(&lines.strobes), write, data)
 }
@@ -66,7 +64,7 @@ pub(crate) fn lines_from(signals: &Signals) -> VmeLines
         am: signals.am().code(),
         write: level_number(signals.write()),
         strobes: strobes_from(signals.strobes()),
-        lanes: lane_numbers(&signals.lines().lanes),
+        lanes: lane_numbers(&signals.lines().lanes()),
     }
 }
 

@@ -163,7 +163,7 @@ fn lane_digits(lane: Option<u8>) -> [u8; 2]
 fn last_lanes(lines: DataLines) -> [u8; 8]
     ensures { result ≡ lanes_text (printed_lanes false lines.lanes) }
 {
-    let [_, _, _, _, first, second, third, last] = lines.lanes;
+    let [_, _, _, _, first, second, third, last] = lines.lanes();
     let (first, second) = (lane_digits(first), lane_digits(second));
     let (third, last) = (lane_digits(third), lane_digits(last));
     [first[0], first[1], second[0], second[1], third[0], third[1], last[0], last[1]]
@@ -174,7 +174,7 @@ fn last_lanes(lines: DataLines) -> [u8; 8]
 fn all_lanes(lines: DataLines) -> [u8; 16]
     ensures { result ≡ lanes_text (printed_lanes true lines.lanes) }
 {
-    let [first, second, third, fourth, fifth, sixth, seventh, last] = lines.lanes;
+    let [first, second, third, fourth, fifth, sixth, seventh, last] = lines.lanes();
     let (first, second) = (lane_digits(first), lane_digits(second));
     let (third, fourth) = (lane_digits(third), lane_digits(fourth));
     let (fifth, sixth) = (lane_digits(fifth), lane_digits(sixth));

@@ -1,3 +1,4 @@
 pub mod Placing
 pub mod Tables
 pub mod Wide
+pub mod Words

@@ -4,6 +4,10 @@ use Rattle.std.specs.List.{list_all, filter_map}
 use Rattle.vme_lanes.specs.declared.location.Location.{Location}
 use Rattle.vme_lanes.specs.Rows.{row_of}
 
+-- what the data lines carry: the eight lanes, the most significant first; IEEE 1014-1987, 2.2.3 (data lines)
+pub record CarriedLanes : Type 0 where
+  pub lanes : List (Option ℕ)
+
 -- the eight lanes when nothing drives them: D63 to D32 of the address lines, and then D31-D24 to D07-D00
 abbrev pub idle_lanes : List (Option ℕ)
 idle_lanes = None ∷ None ∷ None ∷ None ∷ None ∷ None ∷ None ∷ None ∷ []

@@ -1,2 +1,3 @@
 pub mod Rows
 pub mod Lanes
+pub mod Words

@@ -91,7 +91,7 @@ pub fn driven_word(location: Location, lines: DataLines) -> u32
     ensures bytes { part_of location result ≡ bytes_on location lines.lanes }
     ensures len { length (bytes_on location lines.lanes) ≡ (row_of location).len }
 {
-    let [.., d31, d23, d15, d07] = lines.lanes;
+    let [.., d31, d23, d15, d07] = lines.lanes();
     if Strobes::of(location).lword {
         word_of([byte(d15), byte(d07), byte(d15), byte(d07)])
     } else {

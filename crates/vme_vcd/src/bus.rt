@@ -137,7 +137,7 @@ fn push_data_strobes(changes: &mut Vec<Change>, shake: &Handshake) -> Result<(),
 fn push_data(changes: &mut Vec<Change>, shake: &Handshake) -> Result<(), AllocError>
     ensures { OnOk result (changes.new.items ≡ changes.old.items ++ data_changes shake.now) }
 {
-    let lanes = shake.lines.lines().lanes;
+    let lanes = shake.lines.lines().lanes();
     let (lower, upper) = (Code::bus(b'Q'), Code::bus(b'R'));
     let wide = is_wide(shake);
     push_if(
@@ -215,7 +215,7 @@ fn upper_lanes(lanes: [Option<u8>; 8]) -> [Option<u8>; 4]
 fn upper_number(signals: &Signals) -> u32
     ensures { result ≡ upper_number signals.now.lanes }
 {
-    let [a, b, c, d, _, _, _, _] = signals.lines().lanes;
+    let [a, b, c, d, _, _, _, _] = signals.lines().lanes();
     16_777_216 * byte_on(a) + 65_536 * byte_on(b) + 256 * byte_on(c) + byte_on(d)
 }
 

@@ -227,5 +227,5 @@ fn is_data_len(signals: &Signals, bytes: &Datum) -> bool
 fn carries_byte(signals: &Signals) -> bool
     ensures { result ≡ carries_byte signals.now }
 {
-    signals.lines().lanes.iter().any(|lane| lane.is_some())
+    signals.lines().lanes().iter().any(|lane| lane.is_some())
 }
