@@ -169,14 +169,25 @@ impl Signals {
         self.lines
     }
 
+    /// Puts the bytes of a slave's reply to a read on the lanes that the code and the strobes select.
+    // Inlined, because a printed datum changes only the two words of its lanes.
+    #[inline(always)]
+    pub fn answer(&mut self, bytes: &[u8])
+        requires { row_len self.old.am.wide self.old.strobes ≡ Some (length bytes.now) }
+        ensures { self.new ≡ answered_lines self.old bytes.now }
+    {
+        self.lines = placed(self.am.wide(), self.location(), bytes);
+    }
+
     /// Returns the signals after a slave has replied to a read: it drives the bytes on the lanes
     /// that the code and the strobes select.
     pub fn answered(self, bytes: &[u8]) -> Signals
         requires { row_len self.am.wide self.strobes ≡ Some (length bytes.now) }
         ensures { result ≡ answered_lines self bytes.now }
     {
-        let lines = placed(self.am.wide(), self.location(), bytes);
-        Signals { lines, ..self }
+        let mut signals = self;
+        signals.answer(bytes);
+        signals
     }
 }
 
