@@ -86,65 +86,50 @@ fn hex_digits(byte: u8) -> [u8; 2]
     PAIRS[usize::from(byte)]
 }
 
-/// The code, and the name of the address lines after it, in one piece.
+/// The code, and the address lines as an address of eight digits, in one piece.
 #[rattlefmt::skip]
-fn code_text(code: u8) -> [u8; 8]
-    ensures { result ≡ codes "am=" ++ (hex_byte code ++ codes " a=") }
+#[tactic(auto, unfolding(crate::specs::Texts::address_text))]
+fn address_text(code: u8, addr: u32) -> [u8; 16]
+    ensures { result ≡ address_text code addr }
 {
     let [high, low] = hex_digits(code);
-    [b'a', b'm', b'=', high, low, b' ', b'a', b'=']
-}
-
-/// The address lines as an address of eight digits.
-#[rattlefmt::skip]
-fn address_digits(addr: u32) -> [u8; 8]
-    ensures { result ≡ hex_text (to_be_bytes w32 addr) }
-{
     let [first, second, third, last] = addr.to_be_bytes();
     let (first, second) = (hex_digits(first), hex_digits(second));
     let (third, last) = (hex_digits(third), hex_digits(last));
-    [first[0], first[1], second[0], second[1], third[0], third[1], last[0], last[1]]
+    [
+        b'a', b'm', b'=', high, low, b' ', b'a', b'=',
+        first[0], first[1], second[0], second[1], third[0], third[1], last[0], last[1],
+    ]
 }
 
-/// Appends the code and the address lines. There is capacity for them.
-#[tactic(auto, unfolding(crate::specs::Texts::address_text))]
-fn push_address(text: &mut Vec<u8>, code: u8, addr: u32)
-    requires { vec_len text.old + 16 ≤ vec_capacity text.old }
-    ensures items { text.new.items ≡ text.old.items ++ address_text code addr }
-    ensures len { vec_len text.new ≡ vec_len text.old + 16 }
-    ensures capacity { vec_capacity text.old ≤ vec_capacity text.new }
-{
-    push_text(text, &code_text(code));
-    push_text(text, &address_digits(addr));
-}
-
-/// The levels of the data strobes, A01 and LWORD* of a location, in one piece.
+/// The levels of the data strobes, A01, LWORD* and WRITE* of a location, and the name of the data
+/// lines after them, in one piece. `high` is the level of WRITE*.
 #[tactic(auto, unfolding(crate::specs::Texts::strobes_text))]
-fn strobes_text(location: Location) -> &'static [u8; 26]
-    ensures { result.now ≡ strobes_text (row_of location).strobes }
+fn levels_text(location: Location, high: bool) -> &'static [u8; 40]
+    ensures { result.now ≡ strobes_text (row_of location).strobes
+        ++ (level_text (codes " write=") high ++ codes " data=") }
 {
-    match location {
-        Location::Byte0 => b" ds1=0 ds0=1 a01=0 lword=1",
-        Location::Byte1 => b" ds1=1 ds0=0 a01=0 lword=1",
-        Location::Byte2 => b" ds1=0 ds0=1 a01=1 lword=1",
-        Location::Byte3 => b" ds1=1 ds0=0 a01=1 lword=1",
-        Location::Bytes01 => b" ds1=0 ds0=0 a01=0 lword=1",
-        Location::Bytes23 => b" ds1=0 ds0=0 a01=1 lword=1",
-        Location::Bytes03 => b" ds1=0 ds0=0 a01=0 lword=0",
-        Location::Bytes02 => b" ds1=0 ds0=1 a01=0 lword=0",
-        Location::Bytes13 => b" ds1=1 ds0=0 a01=0 lword=0",
-        Location::Bytes12 => b" ds1=0 ds0=0 a01=1 lword=0",
-    }
-}
-
-/// The level of WRITE*, and the name of the data lines after it, in one piece.
-fn write_text(high: bool) -> &'static [u8; 14]
-    ensures { result.now ≡ level_text (codes " write=") high ++ codes " data=" }
-{
-    if high {
-        b" write=1 data="
-    } else {
-        b" write=0 data="
+    match (location, high) {
+        (Location::Byte0, true) => b" ds1=0 ds0=1 a01=0 lword=1 write=1 data=",
+        (Location::Byte0, false) => b" ds1=0 ds0=1 a01=0 lword=1 write=0 data=",
+        (Location::Byte1, true) => b" ds1=1 ds0=0 a01=0 lword=1 write=1 data=",
+        (Location::Byte1, false) => b" ds1=1 ds0=0 a01=0 lword=1 write=0 data=",
+        (Location::Byte2, true) => b" ds1=0 ds0=1 a01=1 lword=1 write=1 data=",
+        (Location::Byte2, false) => b" ds1=0 ds0=1 a01=1 lword=1 write=0 data=",
+        (Location::Byte3, true) => b" ds1=1 ds0=0 a01=1 lword=1 write=1 data=",
+        (Location::Byte3, false) => b" ds1=1 ds0=0 a01=1 lword=1 write=0 data=",
+        (Location::Bytes01, true) => b" ds1=0 ds0=0 a01=0 lword=1 write=1 data=",
+        (Location::Bytes01, false) => b" ds1=0 ds0=0 a01=0 lword=1 write=0 data=",
+        (Location::Bytes23, true) => b" ds1=0 ds0=0 a01=1 lword=1 write=1 data=",
+        (Location::Bytes23, false) => b" ds1=0 ds0=0 a01=1 lword=1 write=0 data=",
+        (Location::Bytes03, true) => b" ds1=0 ds0=0 a01=0 lword=0 write=1 data=",
+        (Location::Bytes03, false) => b" ds1=0 ds0=0 a01=0 lword=0 write=0 data=",
+        (Location::Bytes02, true) => b" ds1=0 ds0=1 a01=0 lword=0 write=1 data=",
+        (Location::Bytes02, false) => b" ds1=0 ds0=1 a01=0 lword=0 write=0 data=",
+        (Location::Bytes13, true) => b" ds1=1 ds0=0 a01=0 lword=0 write=1 data=",
+        (Location::Bytes13, false) => b" ds1=1 ds0=0 a01=0 lword=0 write=0 data=",
+        (Location::Bytes12, true) => b" ds1=0 ds0=0 a01=1 lword=0 write=1 data=",
+        (Location::Bytes12, false) => b" ds1=0 ds0=0 a01=1 lword=0 write=0 data=",
     }
 }
 
@@ -185,6 +170,21 @@ fn all_lanes(lines: DataLines) -> [u8; 16]
     ]
 }
 
+/// Appends the digits of the data lanes: all eight with a code of eight-byte data, otherwise the
+/// last four. There is capacity for them.
+fn push_lanes(text: &mut Vec<u8>, wide: bool, lines: DataLines)
+    requires { vec_len text.old + 16 ≤ vec_capacity text.old }
+    ensures items { text.new.items ≡ text.old.items ++ lanes_text (printed_lanes wide lines.lanes) }
+    ensures len { vec_len text.new ≤ vec_len text.old + 16 }
+    ensures capacity { vec_capacity text.old ≤ vec_capacity text.new }
+{
+    if wide {
+        push_text(text, &all_lanes(lines));
+    } else {
+        push_text(text, &last_lanes(lines));
+    }
+}
+
 /// The greatest length in bytes of the line of a cycle's signals, its LF included.
 const SIGNALS_LEN: usize = 73;
 
@@ -204,14 +204,9 @@ pub fn print_signals(text: &mut Vec<u8>, signals: &Signals) -> Result<(), AllocE
     ensures kept { OnErr result (text.new.items ≡ text.old.items) }
 {
     text.reserve(SIGNALS_LEN)?;
-    push_address(text, signals.am().code(), signals.addr());
-    push_text(text, strobes_text(signals.location()));
-    push_text(text, write_text(signals.write()));
-    if signals.am().wide() {
-        push_text(text, &all_lanes(signals.lines()));
-    } else {
-        push_text(text, &last_lanes(signals.lines()));
-    }
+    push_text(text, &address_text(signals.am().code(), signals.addr()));
+    push_text(text, levels_text(signals.location(), signals.write()));
+    push_lanes(text, signals.am().wide(), signals.lines());
     push_text(text, b"\n");
     Ok(())
 }
