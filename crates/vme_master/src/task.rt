@@ -1,4 +1,4 @@
-ghost use Rattle.std.specs.Prelude.{◌≡◌, ◌≢◌, ◌<◌, ◌≤◌, ◌+◌, [], ◌∷◌, ◌++◌, length, Ok, Some, None, IsTrue, option_map, option_copied, is_some};
+ghost use Rattle.std.specs.Prelude.{◌≡◌, ◌≢◌, ◌<◌, ◌≤◌, ◌+◌, ◌&&◌, [], ◌∷◌, ◌++◌, length, Ok, Some, None, IsTrue, option_map, option_copied, is_some};
 ghost use Rattle.vme_cycle.specs.BlockBuffers.{inline_capacity};
 ghost use Rattle.vme_cycle.specs.Requests.{read_len};
 ghost use Rattle.vme_cycle.specs.Lawful.{Transfer as LawfulRequest, transfer_of};
@@ -194,33 +194,51 @@ impl<'a> Task<'a> {
         requires can { CanMake core.old (call_in (to_do self.old)) }
         ensures { AdvancesOn to_do advance who core.old core.new self.old self.new }
     {
+        self.finishes_on(core, who);
+    }
+
+    /// Performs the next event on `core` for processor `who` as `advance_on` does, and returns
+    /// whether the task has ended with this event.
+    #[inline(always)]
+    pub fn finishes_on(&mut self, core: &mut Core, who: usize) -> bool
+        requires who { who < process_count core.old }
+        requires can { CanMake core.old (call_in (to_do self.old)) }
+        ensures step { AdvancesOn to_do advance who core.old core.new self.old self.new }
+        ensures ended { result ≡ (is_some (call_in (to_do self.old)) && is_some (result_in (to_do self.new))) }
+    {
         match (&self.job, self.phase) {
             (Job::Bus(job), Phase::Requesting) => {
                 let (slot, level) = (job.slot, job.level);
                 let reply = core.apply_bus(who, ArbCmd::Ask { slot, level });
                 self.on_bus_reply(Phase::Requesting, reply);
+                self.is_finished()
             }
             (Job::Bus(job), Phase::Polling) => {
                 let reply = core.apply_bus(who, ArbCmd::Look { slot: job.slot });
                 self.on_bus_reply(Phase::Polling, reply);
+                self.is_finished()
             }
             (Job::Bus(job), Phase::Releasing { berr }) => {
                 let reply = core.apply_bus(who, ArbCmd::Done { slot: job.slot });
                 self.on_bus_reply(Phase::Releasing { berr }, reply);
+                self.is_finished()
             }
             (Job::Bus(job), Phase::Transferring { i }) => {
                 let Some((board, offset)) = job.place else {
                     let reply = core.apply_bus(who, ArbCmd::Done { slot: job.slot });
-                    return self.on_bus_reply(Phase::Transferring { i }, reply);
+                    self.on_bus_reply(Phase::Transferring { i }, reply);
+                    return self.is_finished();
                 };
                 let reply = core.apply_datum(who, board, &job.datum_at(board, offset, i));
                 self.on_board_reply(Phase::Transferring { i }, &reply);
+                self.is_finished()
             }
             (Job::Local(job), Phase::Transferring { i }) => {
                 let reply = core.apply_board(who, job.board, &job.cmd);
                 self.on_board_reply(Phase::Transferring { i }, &reply);
+                self.is_finished()
             }
-            _ => {}
+            _ => false,
         }
     }
 
