@@ -4,9 +4,11 @@ ghost use Rattle.vme_memory.specs.Steps.{command_of};
 ghost use Rattle.vme_memory.specs.Locals.{command_given};
 ghost use Rattle.vme_memory.specs.Data.{has_form};
 ghost use Rattle.vme_master.specs.Jobs.{request_expected, command_expected};
-ghost use Rattle.vme_master.specs.Machine.{expected_len, bytes_of, IsShort};
+ghost use Rattle.vme_master.specs.Events.{outcome_in};
+ghost use Rattle.vme_master.specs.Machine.{expected_len, bytes_of, end_outcome, IsShort};
 ghost use Rattle.vme_cycle.specs.Requests.{read_len};
 
+use crate::outcome::OutcomeRef;
 use vme_cycle::{Plan, Signals};
 use vme_memory::{BoardCmd, Reply};
 
@@ -104,6 +106,19 @@ impl ExpectedReply {
             }
             Reply::Done => self.wanted().is_none(),
             Reply::Berr => true,
+        }
+    }
+
+    /// The outcome of a job that expects this reply, by reference, with the bytes that were read and
+    /// the number of data before a bus error, if one came.
+    pub(crate) fn end_ref(self, berr: Option<u16>, read: &[u8]) -> OutcomeRef<'_>
+        ensures { outcome_in result ≡ end_outcome self berr read.now }
+    {
+        match (berr, self) {
+            (Some(count), _) => OutcomeRef::Berr { count, bytes: read },
+            (None, ExpectedReply::Read { .. }) => OutcomeRef::Read(read),
+            (None, ExpectedReply::Modify { .. }) => OutcomeRef::Old(read),
+            (None, ExpectedReply::Write) => OutcomeRef::Done,
         }
     }
 }

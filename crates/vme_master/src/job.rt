@@ -9,11 +9,10 @@ ghost use Rattle.vme_master.specs.CurrentData.{bus_datum, job_datum};
 ghost use Rattle.vme_master.specs.Jobs.{datum_call};
 ghost use Rattle.vme_master.specs.Machine.{job_expected, datum_phase, phase_at, first_phase, phase_answered, phase_replied, bus_next, local_next, job_next, end_outcome, IsPlaced, IsShort, call_count, job_read_len};
 ghost use Rattle.vme_master.specs.declared.phase.Phase.TheVariants.{Transferring};
-ghost use Rattle.vme_master.specs.Events.{outcome_in};
 
 use crate::current::CurrentDatum;
 use crate::expected::ExpectedReply;
-use crate::outcome::{Outcome, OutcomeRef};
+use crate::outcome::Outcome;
 use crate::phase::Phase;
 use vme_arbiter::{ArbCmd, ArbReply};
 use vme_core::{DatumCycle, EventRef};
@@ -243,19 +242,6 @@ impl Job<'_> {
             (_, Phase::Finished { .. } | Phase::Denied) => true,
             (_, Phase::New | Phase::Transferring { .. }) | (Job::Bus(_), _) => false,
             (Job::Local(_), _) => true,
-        }
-    }
-
-    /// The outcome by reference, with the bytes that were read and the number of data before a bus
-    /// error, if one came.
-    pub(crate) fn end_ref<'r>(&self, berr: Option<u16>, read: &'r [u8]) -> OutcomeRef<'r>
-        ensures { outcome_in result ≡ end_outcome (job_expected self.now) berr read.now }
-    {
-        match (berr, self.expected()) {
-            (Some(count), _) => OutcomeRef::Berr { count, bytes: read },
-            (None, ExpectedReply::Read { .. }) => OutcomeRef::Read(read),
-            (None, ExpectedReply::Modify { .. }) => OutcomeRef::Old(read),
-            (None, ExpectedReply::Write) => OutcomeRef::Done,
         }
     }
 

@@ -272,7 +272,7 @@ impl<'a> Task<'a> {
         ensures { option_map outcome_in result ≡ result_in (to_do self.now) }
     {
         match self.phase {
-            Phase::Finished { berr } => Some(self.job.end_ref(berr, self.read.as_slice())),
+            Phase::Finished { berr } => Some(self.expected.end_ref(berr, self.read.as_slice())),
             phase if self.job.has_ended(phase) => Some(OutcomeRef::Denied),
             _ => None,
         }
