@@ -130,9 +130,10 @@ fn answer_datum(
     ensures board { OnOk result (bus.new ≡ (reply_to bus.old plan.now i).1) }
     ensures len { IfOk result (λ reply. HasLen reply (datum_len plan.now.request)) }
 {
-    let signals = plan.signals(i);
+    let mut signals = plan.signals(i);
     let reply = reply_at(bus, plan, i, offset);
-    print_signals(text, &final_signals(signals, &reply))?;
+    drive_reply(&mut signals, &reply);
+    print_signals(text, &signals)?;
     print_write_half(text, plan, &reply)?;
     Ok(reply)
 }
@@ -168,15 +169,15 @@ fn print_outcome(text: &mut Vec<u8>, plan: &Plan<'_>, replied: &[u8]) -> Result<
     }
 }
 
-/// The signals at the end of a cycle: in a read, with the data that the board drives.
-fn final_signals(signals: Signals, reply: &Reply) -> Signals
-    requires { (len : ℕ) × (row_len signals.am.wide signals.strobes ≡ Some len)
+/// Drives the data of the board's reply to a read, at the end of a cycle.
+fn drive_reply(signals: &mut Signals, reply: &Reply)
+    requires { (len : ℕ) × (row_len signals.old.am.wide signals.old.strobes ≡ Some len)
         × HasLen reply.now len }
-    ensures { result ≡ final_signals signals reply.now }
+    ensures { signals.new ≡ final_signals signals.old reply.now }
 {
     match reply {
-        Reply::Bytes(datum) => signals.answered(datum.as_slice()),
-        Reply::Done | Reply::Berr => signals,
+        Reply::Bytes(datum) => signals.answer(datum.as_slice()),
+        Reply::Done | Reply::Berr => {}
     }
 }
 
