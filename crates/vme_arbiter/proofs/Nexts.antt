@@ -1,5 +1,5 @@
 -- The request that is granted next, found in an array by levels.
-use Rattle.std.proofs.Common.{◌≡◌, ℕ, ◌+◌, ◌<◌, List, Option, Some, None, length, sym, arith, inl, inr}
+use Rattle.std.proofs.Common.{◌≡◌, ◌≢◌, ℕ, ◌+◌, ◌<◌, List, Option, Some, None, length, sym, arith, inl, inr}
 use Rattle.std.specs.Prelude.{MatchOption, IfSome, slice_get}
 use Rattle.std.specs.Option.{option_map}
 use Rattle.std.proofs.lemmas.Bool.{cases_lt, cases_order}
@@ -78,3 +78,14 @@ pub later-within : (places : List (Option ℕ)) (from end : ℕ) (found : Option
     → IfSome found (λ next. next.slot < length places)
 later-within places from end None is = tt
 later-within places from end (Some next) is = slice_get_within places next.slot _ is.there
+
+-- if no request is found up to the first level or above it, there is none
+pub none-anywhere : (first : ℕ) (places : List (Option ℕ)) (found : Option Request) → AreInRange places → HasNone places 0 (first + 1)
+    → MatchOption found (HasNone places (first + 1) 4) (λ next. IsGreatest places (first + 1) 4 next.slot next.level)
+    → found ≡ None → (slot level : ℕ) → slice_get places slot ≢ Some (Some level)
+none-anywhere first places None in_range none is nothing slot level there =
+    let l< = in_range slot level there in
+    let not_above = is slot level there l< in
+    let never = none slot level there not_above in
+    absurd (omega arith)
+none-anywhere first places (Some next) in_range none is nothing slot level there = cc

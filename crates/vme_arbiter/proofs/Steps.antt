@@ -1,5 +1,5 @@
 -- The steps of the arbiter, over its array.
-use Rattle.std.proofs.Common.{◌≡◌, ℕ, ◌<◌, true, false, List, length, set, Option, Some, None, ap, sym, ◌∙◌, arith}
+use Rattle.std.proofs.Common.{◌≡◌, ℕ, ◌<◌, zero, suc, true, false, List, [], ◌∷◌, length, set, Option, Some, None, ap, sym, refl, ◌∙◌, arith}
 use Rattle.std.specs.Prelude.{slice_get, is_some, option_and_then}
 use Rattle.std.proofs.lemmas.Bool.{and_parts, not-true}
 use Rattle.std.proofs.lemmas.Option.{slice_get-get_or}
@@ -40,3 +40,21 @@ pub done-hands : (kind : ArbiterKind) (first : ℕ) (holder : Option ℕ) (slot 
 done-hands kind first holder slot next places held is_next =
     rw (held, ← is_next)
     (ap (arbitration kind (first_after kind next.level) (Some next.slot)) (requests_from-set_none 0 next.slot next.slot places (omega arith)))
+
+-- when the holder releases the bus and no request is pending, the bus is free
+pub done-rests : (kind : ArbiterKind) (first : ℕ) (holder : Option ℕ) (slot : ℕ) (places : List (Option ℕ))
+    → holds (arbitration kind first holder (requests_of places)) slot ≡ true
+    → next_request (level_order first) (requests_of places) ≡ None
+    → arbitration kind first None (requests_of places) ≡ (done_step (arbitration kind first holder (requests_of places)) slot).0
+done-rests kind first holder slot places held none = rw (held, none) refl
+
+-- all levels are in range once a place is emptied, if they were before
+pub emptied-in_range : (places : List (Option ℕ)) (at : ℕ)
+    → ((slot level : ℕ) → slice_get places slot ≡ Some (Some level) → level < 4) → (slot level : ℕ)
+    → slice_get (set places at None) slot ≡ Some (Some level) → level < 4
+emptied-in_range [] at each slot level there = cc
+emptied-in_range (place ∷ places) zero each zero level there = cc
+emptied-in_range (place ∷ places) zero each (suc k) level there = each (suc k) level there
+emptied-in_range (place ∷ places) (suc a) each zero level there = each zero level there
+emptied-in_range (place ∷ places) (suc a) each (suc k) level there =
+    emptied-in_range places a (λ slot level there. each (suc slot) level there) k level there

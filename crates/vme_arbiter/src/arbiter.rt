@@ -23,10 +23,12 @@ pub struct Arbiter {
     first: u8,
     holder: Option<u16>,
     levels: [Option<u8>; PLACES],
+    /// Whether it is known that no request is pending, so that a release need not search the levels.
+    is_quiet: bool,
 }
 
 impl Model for Arbiter {
-    ghost use Rattle.std.specs.Prelude.{◌≡◌, ◌<◌, ℕ, Some, slice_get};
+    ghost use Rattle.std.specs.Prelude.{◌≡◌, ◌≢◌, ◌<◌, ℕ, IsTrue, Some, slice_get};
     ghost use Rattle.vme_arbiter.specs.Requests.{requests_of};
     ghost use Rattle.vme_arbiter.specs.Arbitration.{Arbitration, arbitration};
 
@@ -35,7 +37,8 @@ impl Model for Arbiter {
     ghost view = { λ a. arbitration a.kind a.first a.holder (requests_of a.levels) };
 
     ghost invariant = { λ a. (a.first < 4)
-        × ((slot level : ℕ) → slice_get a.levels slot ≡ Some (Some level) → level < 4) };
+        × ((slot level : ℕ) → slice_get a.levels slot ≡ Some (Some level) → level < 4)
+        × (IsTrue a.is_quiet → (slot level : ℕ) → slice_get a.levels slot ≢ Some (Some level)) };
 }
 
 impl Arbiter {
@@ -62,6 +65,7 @@ impl Arbiter {
             first: HIGHEST,
             holder: None,
             levels: [None; PLACES],
+            is_quiet: false,
         }
     }
 
@@ -96,6 +100,7 @@ impl Arbiter {
                 first,
                 holder,
                 levels,
+                is_quiet: false,
             });
         }
         None
@@ -110,6 +115,7 @@ impl Arbiter {
             first: self.first,
             holder: self.holder,
             levels: self.levels,
+            is_quiet: self.is_quiet,
         }
     }
 
@@ -167,6 +173,7 @@ impl Arbiter {
             return ArbReply::Granted;
         }
         self.levels[usize::from(slot)] = Some(level);
+        self.is_quiet = false;
         ArbReply::Waiting
     }
 
@@ -191,12 +198,19 @@ impl Arbiter {
         if !self.holds(slot) {
             return ArbReply::Denied;
         }
+        if self.is_quiet {
+            self.holder = None;
+            return ArbReply::Freed;
+        }
         match next_request(&self.levels, self.first) {
             Some(next) => {
                 self.levels[usize::from(next.slot)] = None;
                 self.grant(next);
             }
-            None => self.holder = None,
+            None => {
+                self.holder = None;
+                self.is_quiet = true;
+            }
         }
         ArbReply::Freed
     }

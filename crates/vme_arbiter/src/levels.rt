@@ -1,4 +1,4 @@
-ghost use Rattle.std.specs.Prelude.{◌≡◌, ◌≢◌, ◌<◌, ◌≤◌, ℕ, IsFalse, IsTrue, length, Some, IfSome, MatchOption, slice_get};
+ghost use Rattle.std.specs.Prelude.{◌≡◌, ◌≢◌, ◌<◌, ◌≤◌, ℕ, IsFalse, IsTrue, length, Some, None, IfSome, MatchOption, slice_get};
 ghost use Rattle.std.specs.Option.{option_map, option_and_then};
 ghost use Rattle.vme_arbiter.specs.Levels.{level_order};
 ghost use Rattle.vme_arbiter.specs.Grants.{HasNone, IsGreatest};
@@ -53,6 +53,7 @@ pub(crate) fn next_request(levels: &[Option<u8>], first: u8) -> Option<Request>
         ≡ next_request (level_order first) (requests_of levels.now) }
     ensures within { IfSome result (λ next. next.slot < length levels.now) }
     ensures level { IfSome result (λ next. next.level < 4) }
+    ensures none { result ≡ None → (slot level : ℕ) → slice_get levels.now slot ≢ Some (Some level) }
 {
     if !has_request(levels) {
         return None;
