@@ -15,9 +15,10 @@ use std::marker::Brand;
 use vme_object::{Object, Operation, next_count};
 use vme_port::{FREE, Home, Taking, WANTED};
 
-/// The distance between the words of two neighbouring objects, in words of 8 bytes, so that they
-/// lie on different cache lines of 64 bytes.
-pub(crate) const STRIDE: usize = 8;
+/// The distance between the words of two neighbouring objects, in words of 8 bytes. They lie four
+/// cache lines of 64 bytes apart, and so does what follows the last word in memory: a processor
+/// also fetches lines that follow one that it uses.
+pub(crate) const STRIDE: usize = 32;
 
 impl<O: Object> PortArray<O> {
     /// Takes the object at an index if it is in its slot, and returns whether it took it.
