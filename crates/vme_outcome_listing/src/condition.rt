@@ -41,6 +41,10 @@ impl<'a> Model for Condition<'a> {
 impl<'a> Condition<'a> {
     /// Returns the condition on the lines of a text, which are separated by `;`. Spaces around a
     /// line are left out.
+    ///
+    /// # Errors
+    ///
+    /// An allocation failed.
     pub fn new(alloc: Global, kind: Kind, text: &'a str) -> Result<Condition<'a>, AllocError>
         ensures kind { IfOk result (λ condition. condition.kind ≡ kind) }
         ensures wanted { IfOk result (λ condition. condition.wanted ≡ map trim (parts_of text.now)) }

@@ -1,6 +1,6 @@
 //! Tests of scripts on threads: processors that wait for each other, that read blocks, that add to
-//! one word, that share locks and mailboxes, and that wait for the bus. They are a crate of their
-//! own so that the proofs of `vme_threads` are not repeated.
+//! one word, and that share locks and mailboxes; and tests of how processors wait for the bus. They
+//! are a crate of their own so that the proofs of `vme_threads` and `vme_bus_wait` are not repeated.
 #![tactic(auto)]
 
 #[cfg(test)]

@@ -15,8 +15,8 @@ use vme_report::RunFault;
 use vme_script::{Config, Script};
 use vme_shared::LineReply;
 
-/// The places behind the counts of a processor. They keep the counts of two processors out of
-/// neighbouring lines of a cache, which processors pass on in pairs of 64 bytes.
+/// The unused places behind the counts of a processor. They keep the counts of two processors out
+/// of one pair of cache lines of 64 bytes, which processors often fetch together.
 const COUNTS_APART: usize = 32;
 
 /// A processor before its script: its pass, a buffer for what each line reads, and a buffer for
@@ -41,8 +41,8 @@ impl Worker {
     ghost use Rattle.vme_threads.specs.Rans.{IsEndOfRun};
 
     /// Returns the worker of a pass, with the number of the pass. It allocates the counts of
-    /// `boards` boards and the arbiter, and the buffers for what each line of the script reads and
-    /// for the replies.
+    /// `boards` boards and the arbiter, with `COUNTS_APART` unused places behind them, and the
+    /// buffers for what each line of the script reads and for the replies.
     ///
     /// # Errors
     /// `AllocError` if an allocation fails.
