@@ -23,7 +23,7 @@ use Rattle.vme_shared.specs.Machine.{stage_called, current_stepped, current_by, 
 use Rattle.vme_shared.proofs.lemmas.Stands.{by_outcome}
 
 -- a stage after its first call has begun
-called_begun : (stage : Stage) (job : Result Job CycleFault) → current_to_do (stage_called stage job) ≢ NotStarted
+pub called_begun : (stage : Stage) (job : Result Job CycleFault) → current_to_do (stage_called stage job) ≢ NotStarted
 called_begun stage (Ok (Bus j)) = λ rests. absurd cc
 called_begun stage (Ok (Local j)) = λ rests. absurd cc
 called_begun stage (Err fault) = λ rests. absurd cc

@@ -8,5 +8,6 @@ pub mod Mailboxes
 pub mod Steps
 pub mod Tables
 pub mod Machine
+pub mod Retries
 pub mod Events
 pub mod CurrentData

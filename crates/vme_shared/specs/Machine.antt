@@ -1,5 +1,5 @@
 -- The task of a lock, an unlock, a put or a take as a state machine: it keeps its progress in place of the replies.
-use Rattle.std.specs.Prelude.{◌≢◌, [], ◌∷◌, Option, Some, None, Result, Ok, Err}
+use Rattle.std.specs.Prelude.{◌≡◌, ◌≢◌, [], ◌∷◌, Option, Some, None, Result, Ok, Err}
 use Rattle.vme_cycle.specs.declared.fault.CycleFault.{CycleFault}
 use Rattle.vme_core.specs.declared.event.EventReply.{EventReply}
 use Rattle.vme_core.specs.NextSteps.{NextStep, Returns}
@@ -97,3 +97,13 @@ shared_to_do v = current_to_do v.current
 abbrev pub IsGoing : CurrentTransfer → Type 0
 IsGoing (Running stage task) = (outcome : Outcome) → to_do task ≢ Returns outcome
 IsGoing (Finished end) = Unit {0}
+
+-- the bus task of the current transfer, if there is one, is that of its stage
+abbrev pub IsOfStage : SharedJob → CurrentTransfer → Type 0
+IsOfStage s (Running stage task) = stage_job s stage ≡ Ok task.job
+IsOfStage s (Finished end) = Unit {0}
+
+-- the invariant of a task: its transfer is that of its stage and has not ended
+pub record IsKept (s : SharedJob) (current : CurrentTransfer) : Type 0 where
+  pub going : IsGoing current
+  pub of_stage : IsOfStage s current

@@ -1,9 +1,14 @@
-ghost use Rattle.std.specs.Prelude.{◌≡◌, ◌≢◌, ◌<◌, None, option_copied};
+ghost use Rattle.std.specs.Prelude.{◌≡◌, ◌≢◌, ◌<◌, None, IsTrue, option_map, option_copied};
 ghost use Rattle.vme_core.specs.Advances.{CanMake, AdvancesOn};
 ghost use Rattle.vme_core.specs.Machines.{process_count};
-ghost use Rattle.vme_core.specs.NextSteps.{NotStarted, call_in};
-ghost use Rattle.vme_shared.specs.Tables.{SharedJob};
-ghost use Rattle.vme_shared.specs.Machine.{current_after, current_or, current_to_do, IsGoing};
+ghost use Rattle.vme_core.specs.NextSteps.{NotStarted, Returns, call_in, result_in};
+ghost use Rattle.vme_master.specs.Machine.{to_do};
+ghost use Rattle.vme_shared.specs.declared.outcome.SharedOutcome.{SharedOutcome as AnyOutcome};
+ghost use Rattle.vme_shared.specs.declared.outcome.SharedOutcome.TheVariants as shared;
+ghost use Rattle.vme_shared.specs.declared.stage.StageResult.TheVariants.{Finish};
+ghost use Rattle.vme_shared.specs.Steps.{first_stage, step_after};
+ghost use Rattle.vme_shared.specs.Tables.{SharedJob, stage_job};
+ghost use Rattle.vme_shared.specs.Machine.{stage_called, current_after, current_or, current_to_do, IsGoing, IsOfStage};
 
 use crate::outcome::SharedOutcome;
 use crate::request::SharedRequest;
@@ -32,20 +37,23 @@ impl CurrentTransfer<'_> {
         ensures current { (s : SharedJob) → s.request ≡ request →
             current_after s self.old (option_copied reply.entry) ≡ current_or s self.new result }
         ensures going { result ≡ None → IsGoing self.old → IsGoing self.new }
+        ensures of_stage { (s : SharedJob) → IsOfStage s self.old → IsOfStage s self.new }
         ensures begun { result ≡ None → current_to_do self.new ≢ NotStarted }
     {
         let CurrentTransfer::Running { stage, .. } = self else {
             return None;
         };
         let stage = *stage;
-        let CurrentTransfer::Running { task, .. } = self else {
-            return None;
-        };
-        task.advance(reply);
-        if !task.is_finished() {
-            return None;
+        match self {
+            CurrentTransfer::Running { task, .. } => {
+                task.advance(reply);
+                if !task.is_finished() {
+                    return None;
+                }
+                Some(outcome_step(request, stage, task)?)
+            }
+            CurrentTransfer::Finished(_) => None,
         }
-        Some(request.step_after(stage, task.outcome()?))
     }
 
     /// Performs the next event of the transfer at work on `core` for processor `who` and gives the
@@ -63,18 +71,55 @@ impl CurrentTransfer<'_> {
         ensures step { (s : SharedJob) → s.request ≡ request →
             AdvancesOn current_to_do (current_after s) who core.old core.new self.old (current_or s self.new result) }
         ensures going { result ≡ None → IsGoing self.new }
+        ensures ended { (end : AnyOutcome) → current_to_do self.old ≡ Returns end → result ≡ None }
+        ensures of_stage { (s : SharedJob) → IsOfStage s self.old → IsOfStage s self.new }
     {
         let CurrentTransfer::Running { stage, .. } = self else {
             return None;
         };
         let stage = *stage;
-        let CurrentTransfer::Running { task, .. } = self else {
-            return None;
-        };
-        task.advance_on(core, who);
-        if !task.is_finished() {
-            return None;
+        match self {
+            CurrentTransfer::Running { task, .. } => {
+                task.advance_on(core, who);
+                if !task.is_finished() {
+                    return None;
+                }
+                Some(outcome_step(request, stage, task)?)
+            }
+            CurrentTransfer::Finished(_) => None,
         }
-        Some(request.step_after(stage, task.outcome()?))
     }
+
+    /// If the first transfer has found the lock taken, begins it again in its place, with its first
+    /// call made, and returns `true`. `step` is what follows the transfer.
+    #[inline(always)]
+    pub(crate) fn retry(&mut self, request: SharedRequest, step: StageResult) -> bool
+        ensures busy { IsTrue result → step ≡ Finish shared.Busy }
+        ensures again { (s : SharedJob) → s.request ≡ request → IsOfStage s self.old → IsTrue result →
+            self.new ≡ stage_called (first_stage request) (stage_job s (first_stage request)) }
+    {
+        let (Stage::Locks, StageResult::Finish(SharedOutcome::Busy)) = (request.first_stage(), step)
+        else {
+            return false;
+        };
+        match self {
+            CurrentTransfer::Running {
+                stage: Stage::Locks,
+                task,
+            } => {
+                task.restart();
+                task.advance(None);
+                true
+            }
+            _ => false,
+        }
+    }
+}
+
+/// Returns what follows the transfer of a stage, if its bus task has ended.
+#[inline(always)]
+fn outcome_step(request: SharedRequest, stage: Stage, task: &Task<'_>) -> Option<StageResult>
+    ensures { result ≡ option_map (step_after request stage) (result_in (to_do task.now)) }
+{
+    Some(request.step_after(stage, task.outcome()?))
 }

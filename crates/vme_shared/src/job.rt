@@ -1,7 +1,7 @@
 ghost use Rattle.std.specs.Prelude.{◌≡◌, ◌≢◌};
 ghost use Rattle.vme_core.specs.NextSteps.{NotStarted};
 ghost use Rattle.vme_shared.specs.Tables.{stage_job};
-ghost use Rattle.vme_shared.specs.Machine.{stage_task, stage_called, current_stepped, first_transfer, current_to_do, IsGoing};
+ghost use Rattle.vme_shared.specs.Machine.{stage_task, stage_called, current_stepped, first_transfer, current_to_do, IsKept};
 
 use crate::current::CurrentTransfer;
 use crate::outcome::SharedOutcome;
@@ -55,9 +55,10 @@ impl<'a> Job<'a> {
     }
 
     /// Returns the first transfer before its first call.
+    #[tactic(auto, using(crate::proofs::Stages::first_kept))]
     pub(crate) fn first_transfer(&self) -> CurrentTransfer<'a>
         ensures current { result ≡ first_transfer self.now }
-        ensures going { IsGoing result }
+        ensures kept { IsKept self.now result }
     {
         let stage = self.request.first_stage();
         match self.task(stage) {
@@ -67,9 +68,10 @@ impl<'a> Job<'a> {
     }
 
     /// Returns what follows a transfer: the next one, with its first call made, or the end.
+    #[tactic(auto, using(crate::proofs::Stages::stepped_kept))]
     pub(crate) fn stepped(&self, step: StageResult) -> CurrentTransfer<'a>
         ensures current { result ≡ current_stepped self.now step }
-        ensures going { IsGoing result }
+        ensures kept { IsKept self.now result }
         ensures begun { current_to_do result ≢ NotStarted }
     {
         match step {
@@ -79,9 +81,10 @@ impl<'a> Job<'a> {
     }
 
     /// Returns the transfer of a stage after its first call.
+    #[tactic(auto, using(crate::proofs::Stages::begun_kept))]
     fn called(&self, stage: Stage) -> CurrentTransfer<'a>
         ensures current { result ≡ stage_called stage (stage_job self.now stage) }
-        ensures going { IsGoing result }
+        ensures kept { IsKept self.now result }
         ensures begun { current_to_do result ≢ NotStarted }
     {
         match self.task(stage) {
