@@ -1,4 +1,5 @@
 pub mod lemmas
+pub mod Shares
 pub mod Waits
 pub mod Ends
 pub mod Tenures

@@ -1,10 +1,13 @@
 //! Attempts at a line, one after another.
-ghost use Rattle.std.specs.Prelude.{◌≡◌, ◌≢◌, ◌<◌, option_map, option_copied, is_some, Some, None};
+ghost use Rattle.std.specs.Prelude.{◌≡◌, ◌≢◌, ◌<◌, IsTrue, option_map, option_copied, is_some, Some, None};
 ghost use Rattle.vme_core.specs.EventRefs.{call_asked};
 ghost use Rattle.vme_core.specs.Machines.{process_count};
 ghost use Rattle.vme_core.specs.NextSteps.{NotStarted, call_in, result_in};
 ghost use Rattle.vme_core.specs.Advances.{CanMake, AdvancesOn};
-ghost use Rattle.vme_shared.specs.Machine.{shared_to_do};
+ghost use Rattle.vme_shared.specs.Machine.{shared_advance, shared_to_do};
+ghost use Rattle.vme_shared.specs.Retries.{RetriesOn as SharedRetriesOn};
+ghost use Rattle.vme_line_task.specs.declared.attempt.Progress.TheVariants.{Retried};
+ghost use Rattle.vme_line_task.specs.Retries.{Progresses, ProgressesBy, progress_of};
 ghost use Rattle.vme_line_task.specs.CurrentData.{attempt_datum, attempt_command};
 ghost use Rattle.vme_line_task.specs.Tables.{next_wants_retry, shares_next};
 ghost use Rattle.vme_line_task.specs.Events.{reply_in};
@@ -36,6 +39,17 @@ pub enum AttemptTask<'a> {
     Shared(SharedTask<'a>),
 }
 
+/// What an event of an attempt led to.
+#[derive(Clone, Copy, Debug, PartialEq, Eq)]
+pub(crate) enum Progress {
+    /// The attempt has not ended with the event.
+    Going,
+    /// The attempt has ended.
+    Ended,
+    /// The attempt has found its lock taken, and another has begun in its place.
+    Retried,
+}
+
 impl Attempts<'_> {
     /// Gives the current attempt the reply to its event, or `None` at the first call. If the
     /// attempt ends with a reply that asks for another and one is left, that one begins.
@@ -57,8 +71,7 @@ impl Attempts<'_> {
     {
         if self.left > 1 && self.attempt.wants_retry() {
             self.left -= 1;
-            self.attempt.restart();
-            self.attempt.advance(None);
+            self.attempt.begin_again();
         }
     }
 
@@ -86,11 +99,11 @@ impl Attempts<'_> {
         requires can { CanMake core.old (call_in (attempts_to_do self.old)) }
         ensures { AdvancesOn attempts_to_do attempts_advance who core.old core.new self.old self.new }
     {
-        if self.attempt.is_finished() {
-            return;
+        match self.attempt.progress_on(core, who, self.left > 1) {
+            Progress::Going => {}
+            Progress::Ended => self.retry(),
+            Progress::Retried => self.left -= 1,
         }
-        self.attempt.advance_on(core, who);
-        self.retry();
     }
 }
 
@@ -107,17 +120,19 @@ impl AttemptTask<'_> {
         }
     }
 
-    /// Performs the next event on `core` for processor `who` and gives the attempt the reply.
+    /// Performs the next event on `core` for processor `who`, gives the attempt the reply and
+    /// returns what it led to. Another attempt begins in place of this one only if `may_retry`.
     #[inline(always)]
-    fn advance_on(&mut self, core: &mut Core, who: usize)
+    fn progress_on(&mut self, core: &mut Core, who: usize, may_retry: bool) -> Progress
         requires who { who < process_count core.old }
         requires can { CanMake core.old (call_in (attempt_to_do self.old)) }
-        ensures { AdvancesOn attempt_to_do attempt_advance who core.old core.new self.old self.new }
+        ensures allowed { result ≡ Retried → IsTrue may_retry }
+        ensures progress { Progresses who core.old core.new self.old self.new result }
     {
         match self {
-            AttemptTask::Transfer(task) => task.advance_on(core, who),
-            AttemptTask::Await(wait) => wait.advance_on(core, who),
-            AttemptTask::Shared(task) => task.advance_on(core, who),
+            AttemptTask::Transfer(task) => going_or_ended(task.finishes_on(core, who)),
+            AttemptTask::Await(wait) => going_or_ended(wait.finishes_on(core, who)),
+            AttemptTask::Shared(task) => shared_progress_on(task, core, who, may_retry),
         }
     }
 
@@ -204,17 +219,65 @@ impl AttemptTask<'_> {
         }
     }
 
-    /// Puts the attempt back before its first call.
+    /// Puts the attempt back before its first call, and makes that call.
     #[inline(never)]
-    fn restart(&mut self)
-        ensures { self.new ≡ attempt_anew self.old }
+    fn begin_again(&mut self)
+        ensures task { self.new ≡ attempt_advance (attempt_anew self.old) None }
+        ensures begun { attempt_to_do self.new ≢ NotStarted }
     {
         match self {
-            AttemptTask::Transfer(task) => task.restart(),
-            AttemptTask::Await(wait) => wait.restart(),
-            AttemptTask::Shared(task) => task.restart(),
+            AttemptTask::Transfer(task) => {
+                task.restart();
+                task.advance(None);
+            }
+            AttemptTask::Await(wait) => {
+                wait.restart();
+                wait.advance(None);
+            }
+            AttemptTask::Shared(task) => {
+                task.restart();
+                task.advance(None);
+            }
         }
     }
+}
+
+/// The progress of an attempt that has not been tried again.
+fn going_or_ended(has_ended: bool) -> Progress
+    ensures { result ≡ progress_of has_ended }
+{
+    if has_ended {
+        Progress::Ended
+    } else {
+        Progress::Going
+    }
+}
+
+/// Performs the next event of a lock or a mailbox on `core` for processor `who`, gives the task the
+/// reply and returns what it led to. A task that finds its lock taken begins again in its place, if
+/// `may_retry`.
+#[inline(always)]
+fn shared_progress_on(
+    task: &mut SharedTask<'_>,
+    core: &mut Core,
+    who: usize,
+    may_retry: bool,
+) -> Progress
+    requires who { who < process_count core.old }
+    requires can { CanMake core.old (call_in (shared_to_do task.old)) }
+    ensures allowed { result ≡ Retried → IsTrue may_retry }
+    ensures progress { ProgressesBy shared_to_do shared_advance
+        (SharedRetriesOn who core.old core.new task.old task.new)
+        who core.old core.new task.old task.new result }
+{
+    let had_ended = task.outcome().is_some();
+    if task.advance_on_retrying(core, who, may_retry) {
+        return Progress::Retried;
+    }
+    if had_ended {
+        return Progress::Going;
+    }
+    going_or_ended(task.outcome().is_some())
 }
 
 /// Returns the reply of a line to a lock or a mailbox, if its task has ended.

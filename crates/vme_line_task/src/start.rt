@@ -7,7 +7,8 @@ ghost use Rattle.vme_cycle.specs.Lawful.{Transfer as LawfulRequest, transfer_of}
 ghost use Rattle.vme_script.specs.Boards.{entries_of};
 ghost use Rattle.vme_master.specs.Machine.{bus_task};
 ghost use Rattle.vme_shared.specs.Mailboxes.{IsWellFormed};
-ghost use Rattle.vme_line_task.specs.Scripts.{slot_at, level_at, mailbox_at, HasMailbox, HasItsMailbox, Awaiting, transfer_job, request_attempt, shared_attempt, line_attempt};
+ghost use Rattle.vme_shared.specs.Machine.{shared_task};
+ghost use Rattle.vme_line_task.specs.Scripts.{slot_at, level_at, mailbox_at, HasMailbox, HasItsMailbox, Awaiting, transfer_job, request_attempt, shared_job, shared_attempt, line_attempt};
 ghost use Rattle.vme_line_task.specs.ReadBuffers.{request_read_len, line_read_len};
 ghost use Rattle.vme_line_task.specs.Machine.{fresh_of};
 
@@ -139,10 +140,26 @@ fn shares<'a>(
     requires request { IsWellFormed request }
     ensures { result ≡ fresh_of (shared_attempt config.now board request) }
 {
-    let slot = config.slot(board);
-    let level = config.level(board);
-    let task = SharedTask::start(config.map(), slot, level, request)?;
+    let task = shared_task(config, board, request)?;
     Ok(AttemptTask::Shared(task))
+}
+
+/// Returns the task of a request to a lock or a mailbox, or its refusal.
+fn shared_task<'a>(
+    config: &'a Config,
+    board: usize,
+    request: SharedRequest,
+) -> Result<SharedTask<'a>, CycleFault>
+    requires board { board < length config.now.boards }
+    requires request { IsWellFormed request }
+    ensures { result ≡ shared_task (shared_job config.now board request) }
+{
+    SharedTask::start(
+        config.map(),
+        config.slot(board),
+        config.level(board),
+        request,
+    )
 }
 
 /// Returns the mailbox with a number; numbers start at 1.

@@ -1,5 +1,5 @@
 //! Reads that wait for bytes.
-ghost use Rattle.std.specs.Prelude.{◌≡◌, ◌≢◌, ◌<◌, option_map, option_copied, is_some};
+ghost use Rattle.std.specs.Prelude.{◌≡◌, ◌≢◌, ◌<◌, ◌&&◌, option_map, option_copied, is_some};
 ghost use Rattle.std.specs.Str.{bytes_eq};
 ghost use Rattle.vme_core.specs.Advances.{CanMake, AdvancesOn};
 ghost use Rattle.vme_core.specs.EventRefs.{call_asked};
@@ -40,15 +40,17 @@ impl<'a> AwaitTask<'a> {
         self.task.advance(given);
     }
 
-    /// Performs the next event on `core` for processor `who` and gives the read the reply.
+    /// Performs the next event on `core` for processor `who`, gives the read the reply and returns
+    /// whether the read has ended with this event.
     #[inline(always)]
-    pub(crate) fn advance_on(&mut self, core: &mut Core, who: usize)
+    pub(crate) fn finishes_on(&mut self, core: &mut Core, who: usize) -> bool
         requires who { who < process_count core.old }
         requires can { CanMake core.old (call_in (to_do self.old.task)) }
         ensures task { AdvancesOn to_do advance who core.old core.new self.old.task self.new.task }
         ensures want { self.new.want ≡ self.old.want }
+        ensures ended { result ≡ (is_some (call_in (to_do self.old.task)) && is_some (result_in (to_do self.new.task))) }
     {
-        self.task.advance_on(core, who);
+        self.task.finishes_on(core, who)
     }
 
     /// Returns the event that comes next as a reference, if there is one, without the signals of a
