@@ -10,7 +10,7 @@ use Rattle.vme_shared.proofs.Stages.{begun_again}
 use Rattle.vme_shared.proofs.current.CurrentTransfer.retry.Goals as goal
 
 pub returns-in-Running-Locks-default-clause-again : goal.returns-in-Running-Locks-default-clause-again
-returns-in-Running-Locks-default-clause-again c = λ s same of told.
+returns-in-Running-Locks-default-clause-again c = λ s same of taken.
     let p = c.in-Running-Locks-default in
     let first : p.stage ≡ first_stage c.args.request = search rules in
     let made : c.advance.new.self ≡ advance (fresh_task p.task.job) None =

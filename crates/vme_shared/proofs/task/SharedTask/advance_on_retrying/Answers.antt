@@ -23,8 +23,8 @@ pub invariant_of-self-then-retry : goal.invariant_of-self-then-retry
 invariant_of-self-then-retry c =
     let s = c.self.inside.job in
     let value = c.request-request.ensures.value in
-    let told : IsTrue c.retry.result = search rules in
-    let again = c.retry.ensures.again s (sym value) (c.in-Some.ensures.of_stage s c.self.invariant.of_stage) told in
+    let taken : IsTrue c.retry.result = search rules in
+    let again = c.retry.ensures.again s (sym value) (c.in-Some.ensures.of_stage s c.self.invariant.of_stage) taken in
     subst (IsKept s) (sym again)
     (subst (λ (r : SharedRequest). IsKept s (stage_called (first_stage r) (stage_job s (first_stage r)))) (sym value)
     (begun_kept s (first_stage s.request)))
@@ -43,9 +43,9 @@ pub returns-then-retry-clause-retried : goal.returns-then-retry-clause-retried
 returns-then-retry-clause-retried c = λ retried.
     let s = c.self.inside.job in
     let value = c.request-request.ensures.value in
-    let told : IsTrue c.retry.result = search rules in
-    let busy : c.in-Some.step ≡ Finish shared.Busy = c.retry.ensures.busy told in
-    let again = c.retry.ensures.again s (sym value) (c.in-Some.ensures.of_stage s c.self.invariant.of_stage) told in
+    let taken : IsTrue c.retry.result = search rules in
+    let busy : c.in-Some.step ≡ Finish shared.Busy = c.retry.ensures.busy taken in
+    let again = c.retry.ensures.again s (sym value) (c.in-Some.ensures.of_stage s c.self.invariant.of_stage) taken in
     subst
     (λ (old : SharedView). RetriesOn c.args.who c.args.core.now c.advance_on.new.core old (record { job = s; current = c.retry.new.self }))
     c.self.view_is
