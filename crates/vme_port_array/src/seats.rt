@@ -16,8 +16,8 @@ use vme_object::{Object, Operation, next_count};
 use vme_port::{FREE, Home, Taking, WANTED};
 
 /// The distance between the words of two neighbouring objects, in words of 8 bytes: four cache lines
-/// of 64 bytes. As many unused bytes follow the last word. A processor fetches not only the line
-/// that it uses, but also some of those that follow it.
+/// of 64 bytes. 248 unused bytes follow the last word. A processor fetches not only the line that it
+/// uses, but also some of those that follow it.
 pub(crate) const STRIDE: usize = 32;
 
 impl<O: Object> PortArray<O> {
