@@ -7,7 +7,7 @@ ghost use Rattle.vme_core.specs.Advances.{CanMake, AdvancesOn};
 ghost use Rattle.vme_shared.specs.Machine.{shared_advance, shared_to_do};
 ghost use Rattle.vme_shared.specs.Retries.{RetriesOn as SharedRetriesOn};
 ghost use Rattle.vme_line_task.specs.declared.attempt.Progress.TheVariants.{Retried};
-ghost use Rattle.vme_line_task.specs.Retries.{Progresses, ProgressesBy, progress_of};
+ghost use Rattle.vme_line_task.specs.Retries.{Progresses, ProgressesBy, ends_by_call, progress_of};
 ghost use Rattle.vme_line_task.specs.CurrentData.{attempt_datum, attempt_command};
 ghost use Rattle.vme_line_task.specs.Tables.{next_wants_retry, shares_next};
 ghost use Rattle.vme_line_task.specs.Events.{reply_in};
@@ -75,34 +75,42 @@ impl Attempts<'_> {
         }
     }
 
-    /// Performs the current attempt's next event on `core` for processor `who` and gives the
-    /// attempt the reply. A transfer or a local command is attempted once, so its task advances by
-    /// itself.
+    /// Performs the current attempt's next event on `core` for processor `who`, gives the attempt
+    /// the reply and returns whether the line has ended with this event. A transfer or a local
+    /// command is attempted once, so its task advances by itself.
     #[inline(always)]
-    pub(crate) fn advance_on(&mut self, core: &mut Core, who: usize)
+    pub(crate) fn finishes_on(&mut self, core: &mut Core, who: usize) -> bool
         requires who { who < process_count core.old }
         requires can { CanMake core.old (call_in (attempts_to_do self.old)) }
-        ensures { AdvancesOn attempts_to_do attempts_advance who core.old core.new self.old self.new }
+        ensures step { AdvancesOn attempts_to_do attempts_advance who core.old core.new self.old self.new }
+        ensures ended { result ≡ ends_by_call attempts_to_do self.old self.new }
     {
         if let AttemptTask::Transfer(task) = &mut self.attempt {
-            task.advance_on(core, who);
+            task.finishes_on(core, who)
         } else {
-            self.advance_retrying(core, who);
+            self.finishes_retrying(core, who)
         }
     }
 
-    /// Performs the current attempt's next event on `core` for processor `who` and gives the
-    /// attempt the reply. Another attempt may begin.
-    #[inline(never)]
-    fn advance_retrying(&mut self, core: &mut Core, who: usize)
+    /// Performs the current attempt's next event on `core` for processor `who`, gives the attempt
+    /// the reply and returns whether the line has ended with this event. Another attempt may begin.
+    #[inline(always)]
+    fn finishes_retrying(&mut self, core: &mut Core, who: usize) -> bool
         requires who { who < process_count core.old }
         requires can { CanMake core.old (call_in (attempts_to_do self.old)) }
-        ensures { AdvancesOn attempts_to_do attempts_advance who core.old core.new self.old self.new }
+        ensures step { AdvancesOn attempts_to_do attempts_advance who core.old core.new self.old self.new }
+        ensures ended { result ≡ ends_by_call attempts_to_do self.old self.new }
     {
         match self.attempt.progress_on(core, who, self.left > 1) {
-            Progress::Going => {}
-            Progress::Ended => self.retry(),
-            Progress::Retried => self.left -= 1,
+            Progress::Going => false,
+            Progress::Ended => {
+                self.retry();
+                self.attempt.is_finished()
+            }
+            Progress::Retried => {
+                self.left -= 1;
+                self.attempt.is_finished()
+            }
         }
     }
 }
@@ -220,7 +228,7 @@ impl AttemptTask<'_> {
     }
 
     /// Puts the attempt back before its first call, and makes that call.
-    #[inline(never)]
+    #[inline(always)]
     fn begin_again(&mut self)
         ensures task { self.new ≡ attempt_advance (attempt_anew self.old) None }
         ensures begun { attempt_to_do self.new ≢ NotStarted }

@@ -33,6 +33,7 @@ impl<'a> AwaitTask<'a> {
     }
 
     /// Gives the read the reply to its event, or `None` at the first call.
+    #[inline(always)]
     pub(crate) fn advance(&mut self, given: Option<&EventReply>)
         ensures task { self.new ≡ record self.old { task = advance self.old.task (option_copied given.entry) } }
         ensures begun { waits_next self.new.want.items (to_do self.new.task) ≢ NotStarted }

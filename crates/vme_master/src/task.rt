@@ -353,6 +353,7 @@ impl<'a> Task<'a> {
 }
 
 /// Appends the bytes of a reply to those that were read.
+#[inline(always)]
 fn append(read: &mut BlockBuffer, reply: &Reply)
     requires { length read.old.items + length (bytes_of reply.now) ≤ read.old.capacity }
     ensures { read.new ≡ record read.old { items = read.old.items ++ bytes_of reply.now } }

@@ -76,7 +76,6 @@ impl<'a> SharedTask<'a> {
 
     /// Gives the task the reply to its event, or `None` at the first call. `event_ref` then returns
     /// the next event, and `outcome` the outcome.
-    #[inline(never)]
     pub fn advance(&mut self, reply: Option<&EventReply>)
         ensures task { self.new ≡ shared_advance self.old (option_copied reply.entry) }
         ensures begun { shared_to_do self.new ≢ NotStarted }
@@ -101,7 +100,7 @@ impl<'a> SharedTask<'a> {
     /// already taken, it may begin again in its place, with its first call made. Returns whether it
     /// has done so, which `may_retry` has to allow. This is faster than `restart` and `advance`,
     /// since no bus task is made anew.
-    #[inline(never)]
+    #[inline(always)]
     pub fn advance_on_retrying(&mut self, core: &mut Core, who: usize, may_retry: bool) -> bool
         requires who { who < process_count core.old }
         requires can { CanMake core.old (call_in (shared_to_do self.old)) }
@@ -123,7 +122,6 @@ impl<'a> SharedTask<'a> {
 
     /// Returns the event that comes next as a reference, without the signals of a cycle; or `None`
     /// before the first call and after the end.
-    #[inline(never)]
     pub fn event_ref(&self) -> Option<EventRef<'_>>
         ensures { option_map call_asked result ≡ call_in (shared_to_do self.now) }
     {

@@ -1,10 +1,10 @@
 -- The calls of current lines: they go to boards of the configuration, and their objects can count them.
-use Rattle.std.proofs.Common.{◌≡◌, ℕ, ◌-◌, ◌^◌, length, Some, refl, ap, sym, ◌∙◌}
+use Rattle.std.proofs.Common.{◌≡◌, ℕ, ◌-◌, ◌^◌, Bool, ◌&&◌, is_some, length, Some, refl, ap, sym, ◌∙◌}
 use Rattle.vme_core.specs.declared.event.Target.TheVariants as at
 use Rattle.vme_core.specs.Runs.{Machine}
 use Rattle.vme_core.specs.Calls.{Call, OnBoard, OnBus}
 use Rattle.vme_core.specs.EventRefs.{target_of_call, CanCount}
-use Rattle.vme_core.specs.NextSteps.{NextStep, NotStarted, Invokes, Returns, call_in}
+use Rattle.vme_core.specs.NextSteps.{NextStep, NotStarted, Invokes, Returns, MakesCall, call_in, result_in}
 use Rattle.vme_core.specs.Advances.{CanMake, advanced_on, AdvancesOn}
 use Rattle.vme_line_task.specs.declared.task.LineTask.{LineTask}
 use Rattle.vme_shared.specs.declared.reply.LineReply.{LineReply}
@@ -36,6 +36,13 @@ can_next machine task (Returns answer) is below steps = tt
 pub can_make : (machine : Machine) (task : LineTask) → IsLineBelow (length machine.boards) task → StepsWithin (2 ^ 64 - 2) machine
     → CanMake machine (call_in (line_to_do task))
 can_make machine task below steps = can_next machine task (line_to_do task) refl below steps
+
+-- a task that had a call to make has ended with it if it has ended after it
+pub ends_if : {R : Type 0} (old new : NextStep R) (ended : Bool) → MakesCall old → ended ≡ (is_some (call_in old) && is_some (result_in new))
+    → is_some (result_in new) ≡ ended
+ends_if NotStarted new ended makes is = absurd makes
+ends_if (Invokes call) new ended makes is = sym is
+ends_if (Returns result) new ended makes is = absurd makes
 
 -- the machine and the line after the line's call
 pub made_by : (who : ℕ) (before after : Machine) (task new : LineTask) (call : Call) → Invokes call ≡ line_to_do task

@@ -212,8 +212,7 @@ impl<'a> Processor<'a> {
         let Some(task) = &mut self.task else {
             return;
         };
-        task.advance_on(core, board);
-        if task.is_finished() {
+        if task.finishes_on(core, board) {
             end_line(&mut self.lines, self.ended, &mut self.task);
             self.ended += 1;
         }

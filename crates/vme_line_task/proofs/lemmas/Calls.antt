@@ -108,6 +108,16 @@ had_no_call NotStarted new ended = absurd cc
 had_no_call (Invokes call) new ended = absurd cc
 had_no_call (Returns result) new ended = refl
 
+-- what has ended with a call has made one
+pub called_first : (called ended : Bool) → (called && ended) ≡ true → called ≡ true
+called_first true ended both = refl
+called_first false ended both = absurd cc
+
+-- what has made a call has ended with it if it has ended
+pub called_then : (called ended : Bool) → called ≡ true → ended ≡ (called && ended)
+called_then true ended is = refl
+called_then false ended is = absurd cc
+
 -- an attempt that has not ended asks for no other
 goes_on : (a : Attempts) (next : NextStep LineReply) → is_some (result_in next) ≡ false → attempts_again a next ≡ a
 goes_on a NotStarted going = refl
