@@ -43,6 +43,7 @@ impl<'a> Plan<'a> {
     ///
     /// The first refusal of the request, in the order K9, K2, K1, K5, K7, K8, K4, K3, K6.
     #[tactic(auto, unfolding(crate::specs::Lawful::transfer_of, crate::specs::Lawful::first_refusal))]
+    #[inline(always)]
     pub fn of(request: &'a Request) -> Result<Plan<'a>, CycleFault>
         ensures plan { result ≡ transfer_of request.now }
         ensures lawful { IsOk result ↔ (first_refusal request.now ≡ None) }
