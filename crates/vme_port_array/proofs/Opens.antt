@@ -33,12 +33,12 @@ module _ {S C R : Type 0} (step : S → C → S × R) (starts : List S) (k : ℕ
 
   -- the rule holds for a new array
   pub opens : (homes : List (Home S)) → AllAt (λ i (o : S) (h : Home S). (h.object ≡ o) × (h.count ≡ 0)) starts homes
-      → Rule (opening (replicate (length starts * 32) 0) homes (opening_view k))
+      → Rule (opening (replicate (length starts * 16) 0) homes (opening_view k))
   opens homes all =
-      let s : State (Home S) (ArrayView (Indexed C) R) = opening (replicate (length starts * 32) 0) homes (opening_view k) in record {
+      let s : State (Home S) (ArrayView (Indexed C) R) = opening (replicate (length starts * 16) 0) homes (opening_view k) in record {
         history = [];
         legal = λ i start there. tt;
-        word_count = length-replicate (length starts * 32) 0;
+        word_count = length-replicate (length starts * 16) 0;
         each = elim [
           | zero ↦ λ v at. subst (λ (v : ArrayView (Indexed C) R). All (IsConsistent []) v.accounts) (some-injective (opening_view k) v at) (fresh_fits (Indexed C) R 0 k)
           | suc j ↦ λ v at. absurd (some-ne-none v (sym at))
@@ -52,7 +52,7 @@ module _ {S C R : Type 0} (step : S → C → S × R) (starts : List S) (k : ℕ
             let home = there_is homes i (rw all.count below) in
             let same = all.each i first.0 home.0 below in
             inl (record {
-              free = get_or-replicate (length starts * 32) (word_of i) 0 0 (omega arith);
+              free = get_or-replicate (length starts * 16) (word_of i) 0 0 (omega arith);
               home = home.0;
               here = at_home_first homes i home.0 home.1;
               object = λ start there.

@@ -6,9 +6,9 @@ use Rattle.vme_object.specs.declared.history.Entry.{Entry}
 use Rattle.vme_object.specs.History.{IsLegal, entry}
 use Rattle.vme_port_array.specs.declared.indexed.Indexed.{Indexed}
 
--- the index of an object's word: the words of two neighbouring objects are 32 words apart
+-- the index of an object's word: the words of two neighbouring objects are 16 words apart
 abbrev pub word_of : ℕ → ℕ
-word_of i = i * 32
+word_of i = i * 16
 
 -- a command for the object at an index
 abbrev pub indexed : {C : Type 0} → ℕ → C → Indexed C

@@ -37,7 +37,7 @@ module _ {S C R : Type 0} (step : S → C → S × R) (starts : List S) where
   pub record Kept (k : ℕ) (s : State (Home S) (ArrayView (Indexed C) R)) : Type 0 where
     pub history : List (Entry (Indexed C) R)
     pub legal : AreLegal step starts history
-    pub word_count : length s.words ≡ length starts * 32
+    pub word_count : length s.words ≡ length starts * 16
     pub each : (j : ℕ) (v : ArrayView (Indexed C) R) → get_elem? s.views j ≡ some v → All (IsConsistent history) v.accounts
     pub shared : (who : ℕ) → sum_by (names who) s.views ≡ cond (ltb who k) 1 0
     pub weights : sum_by weight s.views ≡ k

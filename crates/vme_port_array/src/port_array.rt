@@ -35,7 +35,7 @@ pub struct PortArray<O: Object> {
     >,
     pub(crate) objects: usize,
     pub(crate) passes: usize,
-    ghost words: { table.shared.table_id.words ≡ objects * 32 },
+    ghost words: { table.shared.table_id.words ≡ objects * 16 },
     ghost slots: { table.shared.table_id.slots ≡ objects },
     ghost count: { length table.shared.key.starts.value.items ≡ objects },
     ghost all: { passes ≡ table.shared.key.passes },

@@ -15,10 +15,10 @@ use std::marker::Brand;
 use vme_object::{Object, Operation, next_count};
 use vme_port::{FREE, Home, Taking, WANTED};
 
-/// The distance between the words of two neighbouring objects, in words of 8 bytes: four cache lines
-/// of 64 bytes. 248 unused bytes follow the last word. A processor fetches not only the line that it
+/// The distance between the words of two neighbouring objects, in words of 8 bytes: two cache lines of
+/// 64 bytes. 120 unused bytes follow the last word. A processor fetches not only the line that it
 /// uses, but also some of those that follow it.
-pub(crate) const STRIDE: usize = 32;
+pub(crate) const STRIDE: usize = 16;
 
 impl<O: Object> PortArray<O> {
     /// Takes the object at an index if it is in its slot, and returns whether it took it.

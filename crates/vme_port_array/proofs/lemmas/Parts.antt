@@ -45,7 +45,7 @@ pub words_apart : (i j : ℕ) → j ≢ i → word_of j ≢ word_of i
 words_apart i j other = λ same. other (omega arith)
 
 -- a word that is written is read back
-pub word_same : (words : List ℕ) (n i new : ℕ) → length words ≡ n * 32 → i < n
+pub word_same : (words : List ℕ) (n i new : ℕ) → length words ≡ n * 16 → i < n
     → slice_index (set words (word_of i) new) (word_of i) ≡ new
 word_same words n i new long less = get_or-set_same words (word_of i) new 0 (omega arith)
 
