@@ -58,7 +58,6 @@ impl WaitState {
     }
 
     /// Returns whether the processor waited for the bus that it now releases, and clears that mark.
-    #[inline(always)]
     pub(crate) fn take_has_waited(&mut self) -> bool
         ensures result { result ≡ has_waited self.old }
         ensures cleared { self.new ≡ record self.old { has_waited = false } }

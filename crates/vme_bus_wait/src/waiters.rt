@@ -71,7 +71,6 @@ impl BusWaiters {
     /// Records that the processor released the bus. If processors wait and all of them sleep, it
     /// wakes one of them. If there are two processors and this one had to wait for the bus, it
     /// defers to the other for at most 16 polls.
-    #[inline(always)]
     pub fn release(&self, wait_state: &mut WaitState)
         ensures { wait_state.new ≡ released (processors_of self.now) wait_state.old }
     {
@@ -113,7 +112,6 @@ impl BusWaiters {
     }
 
     /// Records that the processor got the bus, so it no longer waits.
-    #[inline(always)]
     pub fn leave(&self, wait_state: &mut WaitState)
         ensures { wait_state.new ≡ granted wait_state.old }
     {
@@ -149,7 +147,6 @@ impl BusWaiters {
 
     /// Returns whether more than one processor may wait at a time. Only then are awake processors
     /// counted.
-    #[inline(always)]
     fn counts_awake(&self) -> bool
         ensures { result ≡ nat_lt 2 (processors_of self.now) }
     {
@@ -165,7 +162,6 @@ impl BusWaiters {
 
     /// Counts one processor fewer that waits awake, if awake processors are counted. Returns
     /// whether another one remains.
-    #[inline(always)]
     fn remove_awake(&self) -> bool {
         self.counts_awake() && self.counts.remove_awake()
     }

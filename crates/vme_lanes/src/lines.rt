@@ -53,7 +53,6 @@ impl Model for DataLines {
 
 impl DataLines {
     /// Returns the data lines when nothing drives them.
-    #[inline(always)]
     pub fn idle() -> DataLines
         ensures { result.lanes ≡ idle_lanes }
     {
@@ -61,7 +60,6 @@ impl DataLines {
     }
 
     /// Returns the data lines with these lanes.
-    #[inline(always)]
     pub fn of(lanes: [Option<u8>; 8]) -> DataLines
         ensures { result.lanes ≡ lanes }
     {
@@ -72,7 +70,6 @@ impl DataLines {
     }
 
     /// Returns what each lane carries.
-    #[inline(always)]
     #[tactic(auto, using(crate::proofs::lemmas::Words::flagged_again))]
     pub fn lanes(self) -> [Option<u8>; 8]
         ensures { result ≡ self.lanes }
@@ -116,7 +113,6 @@ impl DataLines {
 }
 
 /// The flag of each lane.
-#[inline(always)]
 #[rattlefmt::skip]
 fn flags_of(lanes: [Option<u8>; 8]) -> [u8; 8]
     ensures { result ≡ map flag_of lanes }
@@ -135,7 +131,6 @@ fn flag(lane: Option<u8>) -> u8
 }
 
 /// The byte of each lane, zero where it carries none.
-#[inline(always)]
 #[rattlefmt::skip]
 fn bytes_of(lanes: [Option<u8>; 8]) -> [u8; 8]
     ensures { result ≡ map byte_of lanes }
@@ -151,7 +146,6 @@ fn byte(lane: Option<u8>) -> u8
 }
 
 /// The lanes of flags and bytes.
-#[inline(always)]
 #[rattlefmt::skip]
 fn lanes_of(flags: [u8; 8], bytes: [u8; 8]) -> [Option<u8>; 8]
     ensures { result ≡ flagged_lanes flags bytes }

@@ -168,7 +168,6 @@ impl ByteMemory {
 }
 
 /// The location of `len` bytes at an offset, if a cycle on four lanes reaches them.
-#[inline(always)]
 #[tactic(auto, using(crate::proofs::Places::none_longer))]
 fn location_of(at: u32, len: usize) -> Option<Location>
     ensures value { result ≡ location_at at len }

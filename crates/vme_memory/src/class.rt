@@ -44,7 +44,6 @@ impl Class {
         }
     }
     /// Whether the class has the cycle of one, two or four bytes at a multiple of their number.
-    #[inline(always)]
     pub(crate) fn answers_whole(self, n: u8) -> bool
         ensures { result ≡ answers_whole self n }
     {

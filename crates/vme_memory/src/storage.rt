@@ -80,7 +80,6 @@ impl Storage {
     }
 
     /// Whether sixteen bytes begin at `offset` and all are zero. It tests them as four words.
-    #[inline(always)]
     #[tactic(auto, using(crate::proofs::Words::words_len))]
     pub(crate) fn is_blank_row(&self, offset: u32) -> bool
         requires { offset % 4 ≡ 0 }
@@ -111,7 +110,6 @@ impl Storage {
     }
 
     /// Reads the bytes of a location from one word. `at` is the offset of the first byte.
-    #[inline(always)]
     #[tactic(auto, using(crate::proofs::Words::words_len, crate::proofs::Words::word_there, crate::proofs::Parts::part_at))]
     pub(crate) fn read(&self, location: Location, at: u32) -> Datum
         requires place { (row_of location).first ≡ at % 4 }
@@ -125,7 +123,6 @@ impl Storage {
 
     /// Replaces the bytes of a location in one word by those of another word. `at` is the offset of
     /// the first byte.
-    #[inline(always)]
     #[tactic(auto, using(crate::proofs::Words::words_len, crate::proofs::Words::word_there, crate::proofs::Parts::merged_at))]
     pub(crate) fn write(&mut self, location: Location, at: u32, new: u32)
         requires place { (row_of location).first ≡ at % 4 }
@@ -211,7 +208,6 @@ impl Storage {
     }
 
     /// Replaces four bytes that lie in two words by the bytes of a word.
-    #[inline(never)]
     #[tactic(auto, using(crate::proofs::Words::words_len, crate::proofs::Wide::across_there, crate::proofs::Wide::across_written))]
     fn put_across(&mut self, at: u32, new: u32)
         requires within { at + 4 ≤ length self.old }
@@ -226,7 +222,6 @@ impl Storage {
     }
 
     /// Replaces `len` bytes at any offset by the first bytes of a word.
-    #[inline(never)]
     #[tactic(auto, using(crate::proofs::Across::put_over))]
     fn put_over(&mut self, at: u32, len: u32, new: u32)
         requires within { at + len ≤ length self.old }
