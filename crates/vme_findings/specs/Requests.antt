@@ -1,10 +1,12 @@
 -- The refusal that `vme cycles` gives for a request line.
-use Rattle.std.specs.Prelude.{option_map, Option, Some, None, Result, Ok, Err}
+use Rattle.std.specs.Prelude.{◌≡◌, ℕ, option_map, Option, Some, None, Result, Ok, Err}
 use Rattle.vme_cycle.specs.declared.request.Request.{Request}
 use Rattle.vme_cycle.specs.Lawful.{first_refusal}
 use Rattle.vme_grammar.specs.declared.fault.LineFault.{LineFault}
 use Rattle.vme_faults.specs.declared.cause.Cause.{Cause}
 use Rattle.vme_faults.specs.declared.cause.Cause.TheVariants as causes
+use Rattle.vme_positions.specs.declared.place.Place.{Place}
+use Rattle.vme_positions.specs.declared.place.Place.TheVariants.{Word}
 use Rattle.vme_findings.specs.declared.request_line.RequestRefusal.{RequestRefusal}
 use Rattle.vme_findings.specs.declared.request_line.RequestRefusal.TheVariants.{Line, Cycle}
 use Rattle.vme_faults.specs.Causes.{line_fault, cycle_fault}
@@ -20,3 +22,8 @@ abbrev pub request_refusal : Result (Option Request) LineFault → Option Reques
 request_refusal (Ok None) = None
 request_refusal (Ok (Some request)) = option_map Cycle (first_refusal request)
 request_refusal (Err fault) = Some (Line fault)
+
+-- a place is at a word of the line with this number, of board 0
+abbrev pub IsOnLine : ℕ → Place → Type 0
+IsOnLine number (Word board line from to) = (board ≡ 0) × (line ≡ number)
+IsOnLine number place = ⊥

@@ -1,12 +1,13 @@
 //! The finding of a request line: its refusal by `vme cycles`, or a warning.
-ghost use Rattle.std.specs.Prelude.{◌≡◌, true, Some, is_none, Ok, slice_get};
+ghost use Rattle.std.specs.Prelude.{◌≡◌, true, Some, is_none, Ok, IfSome, slice_get};
 ghost use Rattle.std.specs.Option.{option_and_then, option_map_or};
 ghost use Rattle.vme_cycle.specs.Lawful.{first_refusal};
 ghost use Rattle.vme_lexer.specs.Words.{words_of};
 ghost use Rattle.vme_engines.specs.Lines.{is_request_word, is_other_word, request_of};
 ghost use Rattle.vme_faults.specs.Causes.{line_fault};
 ghost use Rattle.vme_faults.specs.Severities.{is_warning};
-ghost use Rattle.vme_findings.specs.Requests.{refusal_by, request_refusal};
+ghost use Rattle.vme_positions.specs.declared.place.Place.TheVariants as places;
+ghost use Rattle.vme_findings.specs.Requests.{refusal_by, request_refusal, IsOnLine};
 
 use vme_am::Space;
 use vme_cycle::{CycleFault, Plan, Request};
@@ -38,6 +39,7 @@ pub fn request_finding(line: &[u8], number: usize) -> Option<Finding>
         ≡ request_refusal (request_of line.now) }
     ensures severity { option_map_or is_warning result true
         ≡ is_none (request_refusal (request_of line.now)) }
+    ensures place { IfSome result (λ finding. IsOnLine number finding.place) }
 {
     match read_request(line) {
         Ok(Some(request)) => cycle_finding(line, number, &request),
@@ -51,7 +53,8 @@ pub fn request_finding(line: &[u8], number: usize) -> Option<Finding>
 
 /// A finding at the bytes of a line.
 fn finding_at(number: usize, span: WordSpan, cause: Cause) -> Finding
-    ensures { result.cause ≡ cause }
+    ensures cause { result.cause ≡ cause }
+    ensures place { result.place ≡ places.Word 0 number span.from span.to }
 {
     Finding {
         cause,
@@ -129,6 +132,7 @@ fn cycle_finding(line: &[u8], number: usize, request: &Request) -> Option<Findin
         ≡ request_refusal (Ok (Some request.now)) }
     ensures severity { option_map_or is_warning result true
         ≡ is_none (request_refusal (Ok (Some request.now))) }
+    ensures place { IfSome result (λ finding. IsOnLine number finding.place) }
 {
     match Plan::of(request) {
         Ok(plan) => {
