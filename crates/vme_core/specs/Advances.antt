@@ -1,11 +1,11 @@
 -- A task that makes its own call on the machine and advances by the reply.
-use Rattle.std.specs.Prelude.{ℕ, ◌≡◌, ◌≢◌, length, Option, Some, None, IfSome}
+use Rattle.std.specs.Prelude.{ℕ, ◌≡◌, ◌≢◌, Bool, ◌&&◌, length, is_some, Option, Some, None, IfSome}
 use Rattle.vme_core.specs.declared.event.EventReply.{EventReply}
 use Rattle.vme_core.specs.Runs.{Machine}
 use Rattle.vme_core.specs.Calls.{Call, machine_step}
 use Rattle.vme_core.specs.Machines.{process_count}
 use Rattle.vme_core.specs.EventRefs.{target_of_call, CanCount}
-use Rattle.vme_core.specs.NextSteps.{NextStep, NotStarted, call_in}
+use Rattle.vme_core.specs.NextSteps.{NextStep, NotStarted, call_in, result_in}
 
 -- if there is a call, its object exists and can count a further step
 abbrev pub CanMake : Machine → Option Call → Type 0
@@ -24,3 +24,7 @@ pub record AdvancesOn {T R : Type 0} (next : T → NextStep R) (advance : T → 
   pub begun : next old ≢ NotStarted → next new ≢ NotStarted
   pub boards : length after.boards ≡ length before.boards
   pub process_count : process_count after ≡ process_count before
+
+-- whether a task makes a call in its old state and has ended in its new one
+abbrev pub ends_by_call : {T R : Type 0} → (T → NextStep R) → T → T → Bool
+ends_by_call next old new = is_some (call_in (next old)) && is_some (result_in (next new))

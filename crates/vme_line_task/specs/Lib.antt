@@ -2,7 +2,7 @@ pub mod Scripts
 pub mod ReadBuffers
 pub mod Tables
 pub mod Machine
-pub mod Retries
+pub mod Attempts
 pub mod Events
 pub mod Traces
 pub mod Tenures

@@ -3,13 +3,12 @@ ghost use Rattle.std.specs.Prelude.{◌≡◌, ◌≢◌, ◌<◌, ◌≤◌, �
 ghost use Rattle.vme_core.specs.EventRefs.{call_asked};
 ghost use Rattle.vme_core.specs.Machines.{process_count};
 ghost use Rattle.vme_core.specs.NextSteps.{NotStarted, call_in, result_in};
-ghost use Rattle.vme_core.specs.Advances.{CanMake, AdvancesOn};
+ghost use Rattle.vme_core.specs.Advances.{CanMake, AdvancesOn, ends_by_call};
 ghost use Rattle.vme_grammar.specs.declared.line.Line.{Line as AnyLine};
 ghost use Rattle.vme_script.specs.Configurations.{Configuration};
 ghost use Rattle.vme_master.specs.Tables.{Inputs};
 ghost use Rattle.vme_line_task.specs.Scripts.{HasItsMailbox, lines_at};
 ghost use Rattle.vme_line_task.specs.ReadBuffers.{line_read_len};
-ghost use Rattle.vme_line_task.specs.Retries.{ends_by_call};
 ghost use Rattle.vme_line_task.specs.CurrentData.{line_datum, line_command};
 ghost use Rattle.vme_line_task.specs.Tables.{next_given};
 ghost use Rattle.vme_line_task.specs.Machine.{line_started, line_advance, line_to_do, line_given, attempts_left, IsLineBelow};
@@ -103,8 +102,8 @@ impl<'a> LineTask<'a> {
     }
 
     /// Performs the next event on `core` for processor `who`, gives the line the reply and returns
-    /// whether the line has ended with this event. Without a next event nothing changes. This is
-    /// `event_ref`, `Core::apply_ref`, `advance` and `is_finished` in one, and faster.
+    /// whether the line has ended with this event. Without a next event nothing changes. With one,
+    /// this is `event_ref`, `Core::apply_ref`, `advance` and `is_finished` in one, and faster.
     #[inline(always)]
     pub fn finishes_on(&mut self, core: &mut Core, who: usize) -> bool
         requires who { who < process_count core.old }
@@ -119,7 +118,8 @@ impl<'a> LineTask<'a> {
         }
     }
 
-    /// Returns the datum that the line is at, if it is at a transfer over the bus.
+    /// Returns how far the transfer over the bus has come, or `None` for a local command and for a
+    /// lock or a mailbox that has ended.
     pub fn current_datum(&self) -> Option<CurrentDatum<'_>>
         ensures { result ≡ line_datum self.now }
     {
@@ -197,10 +197,10 @@ impl<'a> LineTask<'a> {
     {
         match line {
             Line::Bus(request) => match transfer(config, board, request, buffer) {
-                Ok(task) => once(task, config.tries()),
+                Ok(task) => transfer_line(task, config.tries()),
                 Err(fault) => LineTask::Refused(fault),
             },
-            Line::Local(cmd) => once(Task::local(board, cmd.copy()), config.tries()),
+            Line::Local(cmd) => transfer_line(Task::local(board, cmd.copy()), config.tries()),
             _ => LineTask::of_any(config, board, line, buffer),
         }
     }
@@ -226,9 +226,9 @@ impl<'a> LineTask<'a> {
     }
 }
 
-/// Returns a transfer or a local command as a line with `left` attempts.
+/// Returns the line of a transfer or a local command, which is attempted once, whatever `left` is.
 #[inline(always)]
-fn once(task: Task<'_>, left: u32) -> LineTask<'_>
+fn transfer_line(task: Task<'_>, left: u32) -> LineTask<'_>
     ensures { result ≡ Running (record { attempt = tries.Transfer task.entry; left = left }) }
 {
     LineTask::Running(Attempts {

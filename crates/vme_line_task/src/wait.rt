@@ -1,13 +1,15 @@
 //! Reads that wait for bytes.
-ghost use Rattle.std.specs.Prelude.{◌≡◌, ◌≢◌, ◌<◌, ◌&&◌, option_map, option_copied, is_some};
+ghost use Rattle.std.specs.Prelude.{◌≡◌, ◌≢◌, ◌<◌, option_map, option_copied, is_some};
 ghost use Rattle.std.specs.Str.{bytes_eq};
-ghost use Rattle.vme_core.specs.Advances.{CanMake, AdvancesOn};
+ghost use Rattle.vme_core.specs.Advances.{CanMake, AdvancesOn, ends_by_call};
 ghost use Rattle.vme_core.specs.EventRefs.{call_asked};
 ghost use Rattle.vme_core.specs.Machines.{process_count};
 ghost use Rattle.vme_core.specs.NextSteps.{NotStarted, call_in, result_in};
 ghost use Rattle.vme_master.specs.CurrentData.{task_datum};
-ghost use Rattle.vme_master.specs.Machine.{advance, fresh_task, to_do};
+ghost use Rattle.vme_master.specs.Machine.{advance, to_do};
 ghost use Rattle.vme_line_task.specs.Tables.{waits_next, next_wants_retry};
+ghost use Rattle.vme_line_task.specs.Attempts.{read_attempts};
+ghost use Rattle.vme_line_task.specs.Machine.{attempts_again, attempts_advance, attempts_to_do};
 ghost use Rattle.vme_line_task.specs.Events.{reply_in};
 
 use crate::reply::LineReplyRef;
@@ -42,16 +44,36 @@ impl<'a> AwaitTask<'a> {
     }
 
     /// Performs the next event on `core` for processor `who`, gives the read the reply and returns
-    /// whether the read has ended with this event.
+    /// whether the line has ended with this event. Another read begins in place of one that ends
+    /// with other bytes, if another is left: `left` counts this one too. `advance` begins no other.
     #[inline(always)]
-    pub(crate) fn finishes_on(&mut self, core: &mut Core, who: usize) -> bool
+    pub(crate) fn finishes_on(&mut self, left: &mut u32, core: &mut Core, who: usize) -> bool
         requires who { who < process_count core.old }
         requires can { CanMake core.old (call_in (to_do self.old.task)) }
-        ensures task { AdvancesOn to_do advance who core.old core.new self.old.task self.new.task }
-        ensures want { self.new.want ≡ self.old.want }
-        ensures ended { result ≡ (is_some (call_in (to_do self.old.task)) && is_some (result_in (to_do self.new.task))) }
+        ensures step { AdvancesOn attempts_to_do attempts_advance who core.old core.new
+            (read_attempts self.old left.old) (read_attempts self.new left.new) }
+        ensures ended { result ≡ ends_by_call attempts_to_do (read_attempts self.old left.old) (read_attempts self.new left.new) }
     {
-        self.task.finishes_on(core, who)
+        if !self.task.finishes_on(core, who) {
+            return false;
+        }
+        self.retry(left);
+        self.task.is_finished()
+    }
+
+    /// Begins another read, if this one has ended with other bytes than it waits for and another is
+    /// left.
+    #[inline(always)]
+    pub(crate) fn retry(&mut self, left: &mut u32)
+        ensures attempts { read_attempts self.new left.new ≡
+            attempts_again (read_attempts self.old left.old) (attempts_to_do (read_attempts self.old left.old)) }
+        ensures begun { attempts_to_do (read_attempts self.old left.old) ≢ NotStarted →
+            attempts_to_do (read_attempts self.new left.new) ≢ NotStarted }
+    {
+        if *left > 1 && self.wants_retry() {
+            *left -= 1;
+            self.task.begin_again();
+        }
     }
 
     /// Returns the event that comes next as a reference, if there is one, without the signals of a
@@ -62,7 +84,7 @@ impl<'a> AwaitTask<'a> {
         self.task.event_ref()
     }
 
-    /// Returns the datum that the read is at.
+    /// Returns how far the read has come.
     pub(crate) fn current_datum(&self) -> Option<CurrentDatum<'_>>
         ensures { result ≡ task_datum self.now.task }
     {
@@ -77,7 +99,7 @@ impl<'a> AwaitTask<'a> {
     }
 
     /// Returns whether the read has ended with other bytes than it waits for.
-    pub(crate) fn wants_retry(&self) -> bool
+    fn wants_retry(&self) -> bool
         ensures { result ≡ next_wants_retry (waits_next self.now.want.items (to_do self.now.task)) }
     {
         match self.task.outcome() {
@@ -108,13 +130,6 @@ impl<'a> AwaitTask<'a> {
             Outcome::Read(_) => LineReply::Met,
             outcome => LineReply::Transfer(outcome),
         })
-    }
-
-    /// Puts the read back before its first call.
-    pub(crate) fn restart(&mut self)
-        ensures { self.new ≡ record self.old { task = fresh_task self.old.task.job } }
-    {
-        self.task.restart();
     }
 
     /// Returns whether these bytes are those that the read waits for.

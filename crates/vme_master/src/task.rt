@@ -1,4 +1,4 @@
-ghost use Rattle.std.specs.Prelude.{◌≡◌, ◌≢◌, ◌<◌, ◌≤◌, ◌+◌, ◌&&◌, [], ◌∷◌, ◌++◌, length, Ok, Some, None, IsTrue, option_map, option_copied, is_some};
+ghost use Rattle.std.specs.Prelude.{◌≡◌, ◌≢◌, ◌<◌, ◌≤◌, ◌+◌, [], ◌∷◌, ◌++◌, length, Ok, Some, None, IsTrue, option_map, option_copied, is_some};
 ghost use Rattle.vme_cycle.specs.BlockBuffers.{inline_capacity};
 ghost use Rattle.vme_cycle.specs.Requests.{read_len};
 ghost use Rattle.vme_cycle.specs.Lawful.{Transfer as LawfulRequest, transfer_of};
@@ -8,7 +8,7 @@ ghost use Rattle.vme_master.specs.Jobs.{bus_job, local_job};
 ghost use Rattle.vme_core.specs.EventRefs.{call_asked};
 ghost use Rattle.vme_core.specs.Machines.{process_count};
 ghost use Rattle.vme_core.specs.NextSteps.{NotStarted, call_in, result_in};
-ghost use Rattle.vme_core.specs.Advances.{CanMake, AdvancesOn};
+ghost use Rattle.vme_core.specs.Advances.{CanMake, AdvancesOn, ends_by_call};
 ghost use Rattle.vme_master.specs.CurrentData.{task_datum, job_command};
 ghost use Rattle.vme_master.specs.Tables.{Inputs, next_of};
 ghost use Rattle.vme_master.specs.Machine.{bytes_of, fresh_task, bus_task, advance, task_given, to_do, is_called, job_read_len, IsPlaced};
@@ -204,7 +204,7 @@ impl<'a> Task<'a> {
         requires who { who < process_count core.old }
         requires can { CanMake core.old (call_in (to_do self.old)) }
         ensures step { AdvancesOn to_do advance who core.old core.new self.old self.new }
-        ensures ended { result ≡ (is_some (call_in (to_do self.old)) && is_some (result_in (to_do self.new))) }
+        ensures ended { result ≡ ends_by_call to_do self.old self.new }
     {
         match (&self.job, self.phase) {
             (Job::Bus(job), Phase::Requesting) => {
@@ -225,9 +225,7 @@ impl<'a> Task<'a> {
             }
             (Job::Bus(job), Phase::Transferring { i }) => {
                 let Some((board, offset)) = job.place else {
-                    let reply = core.apply_bus(who, ArbCmd::Done { slot: job.slot });
-                    self.on_bus_reply(Phase::Transferring { i }, reply);
-                    return self.is_finished();
+                    return self.finishes_by_parts(core, who);
                 };
                 let reply = core.apply_datum(who, board, &job.datum_at(board, offset, i));
                 self.on_board_reply(Phase::Transferring { i }, &reply);
@@ -240,6 +238,22 @@ impl<'a> Task<'a> {
             }
             _ => false,
         }
+    }
+
+    /// Performs the next event as `finishes_on` does, by `event_ref`, `Core::apply_ref` and `advance`.
+    #[cold]
+    fn finishes_by_parts(&mut self, core: &mut Core, who: usize) -> bool
+        requires who { who < process_count core.old }
+        requires can { CanMake core.old (call_in (to_do self.old)) }
+        ensures step { AdvancesOn to_do advance who core.old core.new self.old self.new }
+        ensures ended { result ≡ ends_by_call to_do self.old self.new }
+    {
+        let Some(event) = self.event_ref() else {
+            return false;
+        };
+        let reply = core.apply_ref(who, &event);
+        self.advance(Some(&reply));
+        self.is_finished()
     }
 
     /// Returns the datum that the task is at, if it is a transfer over the bus.
@@ -297,12 +311,23 @@ impl<'a> Task<'a> {
         }
     }
 
-    /// Returns the task to its state before the first call.
+    /// Resets the task to its state before the first call.
     pub fn restart(&mut self)
         ensures { self.new ≡ fresh_task self.old.job }
     {
         self.phase = Phase::New;
         self.read.clear();
+    }
+
+    /// Resets the task to its state after the first call. This is `restart` and `advance` in one,
+    /// and shorter, since there is no reply to read.
+    #[inline(always)]
+    pub fn begin_again(&mut self)
+        ensures task { self.new ≡ advance (fresh_task self.old.job) None }
+        ensures begun { to_do self.new ≢ NotStarted }
+    {
+        self.restart();
+        self.call();
     }
 
     /// Handles the first call, and any later one without a reply.

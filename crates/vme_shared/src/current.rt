@@ -107,8 +107,7 @@ impl CurrentTransfer<'_> {
                 stage: Stage::Locks,
                 task,
             } => {
-                task.restart();
-                task.advance(None);
+                task.begin_again();
                 true
             }
             _ => false,

@@ -67,17 +67,18 @@ impl<'a> Job<'a> {
         }
     }
 
-    /// Returns what follows a transfer: the next one, with its first call made, or the end.
+    /// Puts what follows a transfer in its place: the next one, with its first call made, or the
+    /// end.
     #[tactic(auto, using(crate::proofs::Stages::stepped_kept))]
-    pub(crate) fn stepped(&self, step: StageResult) -> CurrentTransfer<'a>
-        ensures current { result ≡ current_stepped self.now step }
-        ensures kept { IsKept self.now result }
-        ensures begun { current_to_do result ≢ NotStarted }
+    pub(crate) fn step(&self, current: &mut CurrentTransfer<'a>, step: StageResult)
+        ensures current { current.new ≡ current_stepped self.now step }
+        ensures kept { IsKept self.now current.new }
+        ensures begun { current_to_do current.new ≢ NotStarted }
     {
-        match step {
+        *current = match step {
             StageResult::Continue(stage) => self.called(stage),
             StageResult::Finish(end) => CurrentTransfer::Finished(end),
-        }
+        };
     }
 
     /// Returns the transfer of a stage after its first call.

@@ -81,7 +81,7 @@ impl<'a> SharedTask<'a> {
         ensures begun { shared_to_do self.new ≢ NotStarted }
     {
         if let Some(step) = self.current.advance(self.job.request(), reply) {
-            self.current = self.job.stepped(step);
+            self.job.step(&mut self.current, step);
         }
     }
 
@@ -116,7 +116,7 @@ impl<'a> SharedTask<'a> {
         if may_retry && self.current.retry(request, step) {
             return true;
         }
-        self.current = self.job.stepped(step);
+        self.job.step(&mut self.current, step);
         false
     }
 
@@ -151,7 +151,7 @@ impl<'a> SharedTask<'a> {
         }
     }
 
-    /// Returns the task to its state before the first call.
+    /// Resets the task to its state before the first call.
     pub fn restart(&mut self)
         ensures { self.new ≡ shared_fresh self.old.job }
     {

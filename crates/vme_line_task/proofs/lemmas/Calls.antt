@@ -1,11 +1,11 @@
--- What a line does next, by its event and its reply.
+-- How a line and its attempts advance by a call, and whether they end with it.
 use Rattle.std.proofs.Common.{◌≡◌, ◌≢◌, ℕ, ◌-◌, nat_lt, Bool, false, true, ◌&&◌, is_some, Option, Some, None, refl, ap, sym, subst, ◌∙◌}
 use Rattle.arrayvec.specs.ArrayVec.{ArrayVec}
 use Rattle.vme_core.specs.declared.event.EventReply.{EventReply}
 use Rattle.vme_core.specs.Runs.{Machine}
 use Rattle.vme_core.specs.Calls.{Call}
 use Rattle.vme_core.specs.NextSteps.{NextStep, NotStarted, Invokes, Returns, call_in, result_in, next_map}
-use Rattle.vme_core.specs.Advances.{advanced_on, AdvancesOn}
+use Rattle.vme_core.specs.Advances.{advanced_on, AdvancesOn, ends_by_call}
 use Rattle.vme_core.proofs.lemmas.NextSteps.{map_rests, map_same, map_call}
 use Rattle.vme_core.proofs.lemmas.Advances.{part_advances}
 use Rattle.vme_master.specs.declared.outcome.Outcome.{Outcome}
@@ -19,10 +19,8 @@ use Rattle.vme_line_task.specs.declared.task.LineTask.TheVariants.{Running}
 use Rattle.vme_line_task.specs.declared.attempt.Attempts.{Attempts}
 use Rattle.vme_line_task.specs.declared.attempt.AttemptTask.{AttemptTask}
 use Rattle.vme_line_task.specs.declared.attempt.AttemptTask.TheVariants.{Transfer, Await, Shared}
-use Rattle.vme_line_task.specs.declared.attempt.Progress.{Progress}
-use Rattle.vme_line_task.specs.declared.attempt.Progress.TheVariants.{Going, Ended, Retried}
 use Rattle.vme_line_task.specs.declared.wait.AwaitTask.{AwaitTask}
-use Rattle.vme_line_task.specs.Retries.{ends_by_call, progress_of, ProgressesBy, Progresses, RetriesOn}
+use Rattle.vme_line_task.specs.Attempts.{read_attempts, shared_attempts}
 use Rattle.vme_line_task.specs.Tables.{transferring_next, shares_next, await_reply, next_wants_retry}
 use Rattle.vme_line_task.specs.Machine.{line_advance, line_to_do, attempt_advance, attempt_to_do, attempts_again, attempts_advance, attempts_to_do}
 
@@ -53,12 +51,6 @@ running_advances who before after old new it =
     part_advances Running (λ answer. answer) attempts_to_do line_to_do attempts_advance line_advance who before after old new
     (λ a. map_same (attempts_to_do a)) (λ a reply. refl) it
 
--- an attempt at a transfer or a local command makes a call and advances as its task does
-pub transferring_advances : (who : ℕ) (before after : Machine) (old new : TaskView) → AdvancesOn to_do advance who before after old new
-    → AdvancesOn attempt_to_do attempt_advance who before after (Transfer old) (Transfer new)
-transferring_advances who before after old new it =
-    part_advances Transfer answers.Transfer to_do attempt_to_do advance attempt_advance who before after old new (λ t. refl) (λ t reply. refl) it
-
 -- a read that waits for bytes makes a call and advances as its task does
 pub waits_advances : (who : ℕ) (before after : Machine) (old new : AwaitTask) → new.want ≡ old.want
     → AdvancesOn to_do advance who before after old.task new.task
@@ -70,7 +62,7 @@ waits_advances who before after old new same it =
     (part_advances (λ t. Await (record { task = t; want = old.want })) (await_reply old.want.items) to_do attempt_to_do advance attempt_advance who
     before after old.task new.task (λ t. refl) (λ t reply. refl) it)
 
--- and a lock, an unlock, a put or a take
+-- an attempt at a lock or a mailbox makes a call and advances as its task does
 pub shares_advances : (who : ℕ) (before after : Machine) (old new : SharedView)
     → AdvancesOn shared_to_do shared_advance who before after old new
     → AdvancesOn attempt_to_do attempt_advance who before after (Shared old) (Shared new)
@@ -89,7 +81,7 @@ pub part_ends : {R S : Type 0} (f : R → S) (old new : NextStep R)
     → (is_some (call_in old) && is_some (result_in new)) ≡ (is_some (call_in (next_map f old)) && is_some (result_in (next_map f new)))
 part_ends f old new = rw (map_call f old, map_result f new) refl
 
--- a task that had not ended, and has ended after its call if it had one, ended with this call
+-- a task that had not ended has ended exactly if it ended with its call
 pub ends_with_call : {T R : Type 0} (next : T → NextStep R) (advance : T → Option EventReply → T) (who : ℕ) (before after : Machine) (old new : T)
     → AdvancesOn next advance who before after old new → is_some (result_in (next old)) ≡ false
     → is_some (result_in (next new)) ≡ (is_some (call_in (next old)) && is_some (result_in (next new)))
@@ -109,11 +101,11 @@ had_no_call (Invokes call) new ended = absurd cc
 had_no_call (Returns result) new ended = refl
 
 -- what has ended with a call has made one
-pub called_first : (called ended : Bool) → (called && ended) ≡ true → called ≡ true
+called_first : (called ended : Bool) → (called && ended) ≡ true → called ≡ true
 called_first true ended both = refl
 called_first false ended both = absurd cc
 
--- what has made a call has ended with it if it has ended
+-- what has made a call has ended exactly if it ended with that call
 pub called_then : (called ended : Bool) → called ≡ true → ended ≡ (called && ended)
 called_then true ended is = refl
 called_then false ended is = absurd cc
@@ -145,37 +137,49 @@ attempts_go_on who before after old new going it =
         ap (λ (a : Attempts). (after, a)) (sym (goes_on (record { attempt = new; left = old.left }) (attempt_to_do new) going))
         ∙ ap (λ (r : Machine × AttemptTask). (r.0, attempts_again (record { attempt = r.1; left = old.left }) (attempt_to_do r.1))) step
 
--- attempts of which the current one ends with its call make that call, and another begins if it asks for that
-pub attempts_advance_so : (who : ℕ) (before after : Machine) (old : Attempts) (new : AttemptTask) (final : Attempts)
-    → (is_some (call_in (attempts_to_do old)) && is_some (result_in (attempt_to_do new))) ≡ true
+-- attempts of which the current one had not ended make its call, and another begins if it asks for that
+attempts_advance_going : (who : ℕ) (before after : Machine) (old : Attempts) (new : AttemptTask) (final : Attempts)
+    → is_some (result_in (attempts_to_do old)) ≡ false
     → AdvancesOn attempt_to_do attempt_advance who before after old.attempt new
     → final ≡ attempts_again (record { attempt = new; left = old.left }) (attempt_to_do new)
     → (attempt_to_do new ≢ NotStarted → attempts_to_do final ≢ NotStarted)
     → AdvancesOn attempts_to_do attempts_advance who before after old final
-attempts_advance_so who before after old new final ended it is begun =
+attempts_advance_going who before after old new final going it is begun =
     record {
-      step = by (call_in (attempts_to_do old)) ended it.step;
+      step = by (call_in (attempts_to_do old)) it.step;
       begun = λ first. begun (it.begun first);
       boards = it.boards;
       process_count = it.process_count;
     }
   where
-    by : (call : Option Call) → (is_some call && is_some (result_in (attempt_to_do new))) ≡ true
-        → (after, new) ≡ advanced_on attempt_advance call who before old.attempt
+    by : (call : Option Call) → (after, new) ≡ advanced_on attempt_advance call who before old.attempt
         → (after, final) ≡ advanced_on attempts_advance call who before old
-    by None ended step = absurd cc
-    by (Some call) ended step =
+    by None step =
+        ap (λ (a : Attempts). (after, a)) is
+        ∙ ap (λ (r : Machine × AttemptTask). (r.0, attempts_again (record { attempt = r.1; left = old.left }) (attempt_to_do r.1))) step
+        ∙ ap (λ (a : Attempts). (before, a)) (goes_on old (attempts_to_do old) going)
+    by (Some call) step =
         ap (λ (a : Attempts). (after, a)) is
         ∙ ap (λ (r : Machine × AttemptTask). (r.0, attempts_again (record { attempt = r.1; left = old.left }) (attempt_to_do r.1))) step
 
--- a task that is not tried again goes on or has ended
-pub progressed : {T R : Type 0} (next : T → NextStep R) (advance : T → Option EventReply → T) (retries : Type 0) (who : ℕ) (before after : Machine)
-    (old new : T) (is : Bool) → AdvancesOn next advance who before after old new → is ≡ ends_by_call next old new
-    → ProgressesBy next advance retries who before after old new (progress_of is)
-progressed next advance retries who before after old new true it same = (it, sym same)
-progressed next advance retries who before after old new false it same = (it, sym same)
+-- what makes a call has not ended
+calls_going : {R : Type 0} (next : NextStep R) → is_some (call_in next) ≡ true → is_some (result_in next) ≡ false
+calls_going NotStarted made = absurd cc
+calls_going (Invokes call) made = refl
+calls_going (Returns result) made = absurd cc
 
--- a lock that was taken ended with its call
+-- attempts of which the current one ends with its call make that call, and another begins if it asks for that
+attempts_advance_ended : (who : ℕ) (before after : Machine) (old : Attempts) (new : AttemptTask) (final : Attempts)
+    → (is_some (call_in (attempts_to_do old)) && is_some (result_in (attempt_to_do new))) ≡ true
+    → AdvancesOn attempt_to_do attempt_advance who before after old.attempt new
+    → final ≡ attempts_again (record { attempt = new; left = old.left }) (attempt_to_do new)
+    → (attempt_to_do new ≢ NotStarted → attempts_to_do final ≢ NotStarted)
+    → AdvancesOn attempts_to_do attempts_advance who before after old final
+attempts_advance_ended who before after old new final ended =
+    attempts_advance_going who before after old new final
+    (calls_going (attempts_to_do old) (called_first (is_some (call_in (attempts_to_do old))) (is_some (result_in (attempt_to_do new))) ended))
+
+-- a task that begins again since its lock was taken had a call to make
 retried_calls : (who : ℕ) (before after : Machine) (old new : SharedView) → SharedRetriesOn who before after old new
     → is_some (call_in (attempt_to_do (Shared old))) ≡ true
 retried_calls who before after old new it = by (shared_to_do old) refl it.advances.step
@@ -189,39 +193,93 @@ retried_calls who before after old new it = by (shared_to_do old) refl it.advanc
     by (Invokes call) is made = refl
     by (Returns end) is made = absurd (it.going end is)
 
--- a lock, a put or a take that found its lock taken and begins again is another attempt
-shares_retry : (who : ℕ) (before after : Machine) (old new : SharedView) → SharedRetriesOn who before after old new
-    → RetriesOn who before after (Shared old) (Shared new)
-shares_retry who before after old new it = record {
-  calls = retried_calls who before after old new it;
-  ended = Shared it.ended;
-  advances = shares_advances who before after old it.ended it.advances;
-  wanted = ap (λ (next : NextStep SharedOutcome). next_wants_retry (shares_next next)) it.busy;
-  again = ap (λ (v : SharedView). Shared v) it.again;
-  begun = λ rests. it.begun (map_rests answers.Shared (shared_to_do new) rests);
-}
-
--- an attempt at a lock or a mailbox makes progress as its task does
-pub shares_progress : (who : ℕ) (before after : Machine) (old new : SharedView) (progress : Progress)
-    → ProgressesBy shared_to_do shared_advance (SharedRetriesOn who before after old new) who before after old new progress
-    → Progresses who before after (Shared old) (Shared new) progress
-shares_progress who before after old new Going it =
-    (shares_advances who before after old new it.0, sym (part_ends answers.Shared (shared_to_do old) (shared_to_do new)) ∙ it.1)
-shares_progress who before after old new Ended it =
-    (shares_advances who before after old new it.0, sym (part_ends answers.Shared (shared_to_do old) (shared_to_do new)) ∙ it.1)
-shares_progress who before after old new Retried it = shares_retry who before after old new it
-
 -- what asks for another attempt has ended
 wants_after_end : (next : NextStep LineReply) → next_wants_retry next ≡ true → is_some (result_in next) ≡ true
 wants_after_end NotStarted wanted = cc
 wants_after_end (Invokes call) wanted = cc
 wants_after_end (Returns answer) wanted = refl
 
--- attempts of which the current one is tried again in its place make its call, and one is fewer left
-pub attempts_retry : (who : ℕ) (before after : Machine) (old : Attempts) (new : AttemptTask) → RetriesOn who before after old.attempt new
-    → nat_lt 1 old.left ≡ true
-    → AdvancesOn attempts_to_do attempts_advance who before after old (record { attempt = new; left = old.left - 1 })
-attempts_retry who before after old new it more =
-    attempts_advance_so who before after old it.ended (record { attempt = new; left = old.left - 1 })
-    (rw (it.calls, wants_after_end (attempt_to_do it.ended) it.wanted) refl) it.advances (rw (it.wanted, more, it.again) refl)
-    (λ started. it.begun)
+-- a lock, a put or a take that found its lock taken and begins again makes attempts advance, and one is fewer left
+pub shared_retries : (who : ℕ) (before after : Machine) (old new : SharedView) (left : ℕ) → SharedRetriesOn who before after old new
+    → nat_lt 1 left ≡ true
+    → AdvancesOn attempts_to_do attempts_advance who before after (shared_attempts old left) (shared_attempts new (left - 1))
+shared_retries who before after old new left it more =
+    let wanted : next_wants_retry (attempt_to_do (Shared it.ended)) ≡ true =
+    ap (λ (next : NextStep SharedOutcome). next_wants_retry (shares_next next)) it.busy in
+    attempts_advance_ended who before after (shared_attempts old left) (Shared it.ended) (shared_attempts new (left - 1))
+    (rw (retried_calls who before after old new it, wants_after_end (attempt_to_do (Shared it.ended)) wanted) refl)
+    (shares_advances who before after old it.ended it.advances)
+    (rw (wanted, more, it.again) refl)
+    (λ started rests. it.begun (map_rests answers.Shared (shared_to_do new) rests))
+
+-- attempts of which one has begun again have ended exactly if they ended with the call
+pub shared_retried : (who : ℕ) (before after : Machine) (old new : SharedView) (left left_after : ℕ) → SharedRetriesOn who before after old new
+    → is_some (result_in (shared_to_do new)) ≡ ends_by_call attempts_to_do (shared_attempts old left) (shared_attempts new left_after)
+shared_retried who before after old new left left_after it =
+    map_result answers.Shared (shared_to_do new)
+    ∙ called_then (is_some (call_in (attempt_to_do (Shared old)))) (is_some (result_in (attempt_to_do (Shared new))))
+    (retried_calls who before after old new it)
+
+-- attempts at a lock or a mailbox of which the current one had not ended make its call, and another begins if it asks for that
+pub shared_advances : (who : ℕ) (before after : Machine) (old new final : SharedView) (left left_after : ℕ)
+    → is_some (result_in (shared_to_do old)) ≡ false
+    → AdvancesOn shared_to_do shared_advance who before after old new
+    → shared_attempts final left_after ≡ attempts_again (shared_attempts new left) (attempts_to_do (shared_attempts new left))
+    → (attempts_to_do (shared_attempts new left) ≢ NotStarted → attempts_to_do (shared_attempts final left_after) ≢ NotStarted)
+    → AdvancesOn attempts_to_do attempts_advance who before after (shared_attempts old left) (shared_attempts final left_after)
+shared_advances who before after old new final left left_after going it is begun =
+    attempts_advance_going who before after (shared_attempts old left) (Shared new) (shared_attempts final left_after)
+    (sym (map_result answers.Shared (shared_to_do old)) ∙ going) (shares_advances who before after old new it) is begun
+
+-- attempts at a lock or a mailbox that had not ended have ended exactly if they ended with the call
+pub shared_ends : (who : ℕ) (before after : Machine) (old final : SharedView) (left left_after : ℕ)
+    → is_some (result_in (shared_to_do old)) ≡ false
+    → AdvancesOn attempts_to_do attempts_advance who before after (shared_attempts old left) (shared_attempts final left_after)
+    → is_some (result_in (shared_to_do final)) ≡ ends_by_call attempts_to_do (shared_attempts old left) (shared_attempts final left_after)
+shared_ends who before after old final left left_after going it =
+    map_result answers.Shared (shared_to_do final)
+    ∙ ends_with_call attempts_to_do attempts_advance who before after (shared_attempts old left) (shared_attempts final left_after) it
+    (sym (map_result answers.Shared (shared_to_do old)) ∙ going)
+
+-- attempts at a lock or a mailbox that had ended make no call
+pub shared_no_call : (old new : SharedView) (left : ℕ) → is_some (result_in (shared_to_do old)) ≡ true
+    → false ≡ ends_by_call attempts_to_do (shared_attempts old left) (shared_attempts new left)
+shared_no_call old new left ended =
+    had_no_call (attempts_to_do (shared_attempts old left)) (attempts_to_do (shared_attempts new left)) (sym (map_result answers.Shared (shared_to_do old)) ∙ ended)
+
+-- attempts at a lock or a mailbox that had ended stay as they are
+pub shared_rests : (who : ℕ) (before after : Machine) (old new : SharedView) (left : ℕ) → is_some (result_in (shared_to_do old)) ≡ true
+    → AdvancesOn shared_to_do shared_advance who before after old new
+    → AdvancesOn attempts_to_do attempts_advance who before after (shared_attempts old left) (shared_attempts new left)
+shared_rests who before after old new left ended it =
+    attempts_go_on who before after (shared_attempts old left) (Shared new) (sym (shared_no_call old new left ended))
+    (shares_advances who before after old new it)
+
+-- attempts at a read that waits for bytes end with the call of the current one if it does
+pub read_ends : (old new : AwaitTask) (left : ℕ) → new.want ≡ old.want
+    → (is_some (call_in (to_do old.task)) && is_some (result_in (to_do new.task))) ≡ ends_by_call attempts_to_do (read_attempts old left) (read_attempts new left)
+read_ends old new left same =
+    subst
+    (λ (want : ArrayVec ℕ). (is_some (call_in (to_do old.task)) && is_some (result_in (to_do new.task)))
+    ≡ ends_by_call attempts_to_do (read_attempts old left) (read_attempts (record { task = new.task; want = want }) left))
+    (sym same) (part_ends (await_reply old.want.items) (to_do old.task) (to_do new.task))
+
+-- a read that waits for bytes and has not ended with its call is the current attempt still
+pub read_goes_on : (who : ℕ) (before after : Machine) (old new : AwaitTask) (left : ℕ) → new.want ≡ old.want
+    → AdvancesOn to_do advance who before after old.task new.task
+    → (is_some (call_in (to_do old.task)) && is_some (result_in (to_do new.task))) ≡ false
+    → AdvancesOn attempts_to_do attempts_advance who before after (read_attempts old left) (read_attempts new left)
+read_goes_on who before after old new left same it going =
+    attempts_go_on who before after (read_attempts old left) (Await new) (sym (read_ends old new left same) ∙ going)
+    (waits_advances who before after old new same it)
+
+-- a read that waits for bytes and has ended with its call is followed by another if it asks for that
+pub read_advances : (who : ℕ) (before after : Machine) (old new final : AwaitTask) (left left_after : ℕ) → new.want ≡ old.want
+    → AdvancesOn to_do advance who before after old.task new.task
+    → (is_some (call_in (to_do old.task)) && is_some (result_in (to_do new.task))) ≡ true
+    → read_attempts final left_after ≡ attempts_again (read_attempts new left) (attempts_to_do (read_attempts new left))
+    → (attempts_to_do (read_attempts new left) ≢ NotStarted → attempts_to_do (read_attempts final left_after) ≢ NotStarted)
+    → AdvancesOn attempts_to_do attempts_advance who before after (read_attempts old left) (read_attempts final left_after)
+read_advances who before after old new final left left_after same it ended is begun =
+    attempts_advance_ended who before after (read_attempts old left) (Await new) (read_attempts final left_after) (sym (read_ends old new left same) ∙ ended)
+    (waits_advances who before after old new same it) is begun

@@ -1,9 +1,8 @@
 use Rattle.std.proofs.Common.{◌≡◌, sym, subst}
 use Rattle.vme_line_task.specs.declared.task.LineTask.{LineTask}
 use Rattle.vme_line_task.specs.declared.task.LineTask.TheVariants.{Running}
-use Rattle.vme_line_task.specs.Retries.{ends_by_call}
 use Rattle.vme_line_task.specs.Machine.{line_advance, line_to_do}
-use Rattle.vme_core.specs.Advances.{AdvancesOn}
+use Rattle.vme_core.specs.Advances.{AdvancesOn, ends_by_call}
 use Rattle.vme_line_task.proofs.lemmas.Calls.{running_advances}
 use Rattle.vme_line_task.proofs.lemmas.Below.{made_below}
 use Rattle.vme_line_task.proofs.task.LineTask.finishes_on.Goals as goal

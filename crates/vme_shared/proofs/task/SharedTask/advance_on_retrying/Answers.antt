@@ -72,4 +72,4 @@ returns-clause-advanced c = λ same.
     (λ (one : CurrentTransfer). AdvancesOn shared_to_do shared_advance c.args.who c.args.core.now c.advance_on.new.core
     (record { job = s; current = c.self.inside.current }) (record { job = s; current = one }))
     (sym (stepped ∙ ap (λ (one : SharedJob). current_stepped one c.in-Some.step) is)) made)) in
-    by _ (search rules) c.stepped.result c.stepped.ensures.current
+    by _ (search rules) c.step.new.current c.step.ensures.current
