@@ -89,8 +89,6 @@ impl BusWaiters {
     /// Waits for one round, after the arbiter replied `Waiting`: until the number of releases
     /// differs from `seen`, or for a bounded time. `who` is the processor's place among the `count`
     /// processors, from 0 on. A processor whose place is not below `count` never sleeps.
-    #[cold]
-    #[inline(never)]
     pub fn wait<R: Wait>(&self, rt: &R, who: usize, seen: u64, wait_state: &mut WaitState)
         ensures rounds { rounds_of wait_state.new ≡ one_more (rounds_of wait_state.old) }
         ensures still { (still_rounds_of wait_state.new ≡ 0)
@@ -125,8 +123,6 @@ impl BusWaiters {
     /// `LOOKS_ASIDE` polls. Returns at once if the other one defers too. A change of the bus
     /// between threads takes longer than a transfer, so one processor makes several transfers
     /// before the other does.
-    #[cold]
-    #[inline(never)]
     fn stand_aside(&self) {
         if self.counts.step_aside() {
             return;
@@ -198,8 +194,6 @@ impl BusWaiters {
 
     /// Wakes the first processor, in order of slots, that sleeps or is about to sleep. Returns its
     /// place among the processors.
-    #[cold]
-    #[inline(never)]
     fn wake_first(&self) -> Option<usize>
         ensures { IfSome result (λ who. who < processors_of self.now) }
     {

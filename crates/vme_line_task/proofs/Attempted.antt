@@ -28,7 +28,7 @@ use Rattle.vme_shared.specs.declared.outcome.SharedOutcome.TheVariants as shared
 use Rattle.vme_shared.specs.Tables.{shared_next, shared_arb_reply}
 use Rattle.vme_shared.proofs.lemmas.Tenures as laws
 use Rattle.vme_line_task.specs.Scripts.{Attempt, Transferring, Awaiting, Sharing}
-use Rattle.vme_line_task.specs.Tables.{transferring_next, waits_next, shares_next, attempt_next}
+use Rattle.vme_line_task.specs.Tables.{transferring_next, awaiting_next, sharing_next, attempt_next}
 use Rattle.vme_line_task.specs.Tenures.{job_arb_reply, attempt_arb_reply, IsUndeniedReply, IsGranted}
 use Rattle.vme_line_task.proofs.lemmas.Below.{transferring_makes, waits_makes, shares_makes}
 use Rattle.vme_line_task.proofs.Tenures.{good_end, good_freed, FreedBy, freed_stands, local_never, turn_reported, datum_reported, begin_reported, IsOwnJob}
@@ -132,7 +132,7 @@ found_granted true answer ends = (λ denied. absurd cc, λ denied. absurd cc)
 found_granted false answer ends = (λ denied. absurd cc, λ denied. absurd cc)
 
 -- the end of a read that waits for bytes is the end of its task
-waits_ends : (want : List ℕ) (next : NextStep Outcome) (answer : LineReply) → waits_next want next ≡ Returns answer → EndsBy next answer
+waits_ends : (want : List ℕ) (next : NextStep Outcome) (answer : LineReply) → awaiting_next want next ≡ Returns answer → EndsBy next answer
 waits_ends want NotStarted answer ends = absurd cc
 waits_ends want (Invokes call) answer ends = absurd cc
 waits_ends want (Returns (outcomes.Read bytes)) answer ends = record {
@@ -153,7 +153,7 @@ record SharedEnd (next : NextStep SharedOutcome) (answer : LineReply) : Type 0 w
   is : replies.Shared outcome ≡ answer
 
 -- the end of a request to a lock or a mailbox is the end of its task
-shares_ends : (next : NextStep SharedOutcome) (answer : LineReply) → shares_next next ≡ Returns answer → SharedEnd next answer
+shares_ends : (next : NextStep SharedOutcome) (answer : LineReply) → sharing_next next ≡ Returns answer → SharedEnd next answer
 shares_ends NotStarted answer ends = absurd cc
 shares_ends (Invokes call) answer ends = absurd cc
 shares_ends (Returns outcome) answer ends = record { outcome = outcome; ends = refl; is = cc }

@@ -21,7 +21,7 @@ use Rattle.vme_grammar.specs.declared.line.Line.{Line}
 use Rattle.vme_script.specs.Configurations.{Configuration}
 use Rattle.vme_line_task.specs.Scripts.{Attempt, Transferring, Awaiting, Sharing, line_attempt}
 use Rattle.vme_line_task.specs.Tenures.{IsGranted}
-use Rattle.vme_line_task.specs.Tables.{transferring_next, waits_next, shares_next, attempt_next, asks_again, next_wants_retry, Attempts, next_attempt, attempts_of, lawful_next, next_given}
+use Rattle.vme_line_task.specs.Tables.{transferring_next, awaiting_next, sharing_next, attempt_next, asks_again, next_wants_retry, AttemptsGiven, next_attempt, attempts_of, lawful_next, next_given}
 
 -- a task's outcome is final
 task_stays : (job : Job) (given : Inputs) (last : Option EventReply) (outcome : Outcome) → next_of job given ≡ Returns outcome
@@ -37,17 +37,17 @@ transferring_stays job given last answer (Returns outcome) is ends = ap transfer
 
 -- the reply of a read that waits for bytes is final
 waits_stays : (job : Job) (want : List ℕ) (given : Inputs) (last : Option EventReply) (answer : LineReply) (next : NextStep Outcome) → next_of job given ≡ next
-    → waits_next want next ≡ Returns answer → waits_next want (next_of job (last ∷ given)) ≡ Returns answer
+    → awaiting_next want next ≡ Returns answer → awaiting_next want (next_of job (last ∷ given)) ≡ Returns answer
 waits_stays job want given last answer NotStarted is ends = absurd cc
 waits_stays job want given last answer (Invokes call) is ends = absurd cc
-waits_stays job want given last answer (Returns outcome) is ends = ap (waits_next want) (task_stays job given last outcome is) ∙ ends
+waits_stays job want given last answer (Returns outcome) is ends = ap (awaiting_next want) (task_stays job given last outcome is) ∙ ends
 
 -- the reply of a request to a lock or a mailbox is final
 shares_stays : (s : SharedJob) (given : Inputs) (last : Option EventReply) (answer : LineReply) (next : NextStep SharedOutcome) → shared_next s given ≡ next
-    → shares_next next ≡ Returns answer → shares_next (shared_next s (last ∷ given)) ≡ Returns answer
+    → sharing_next next ≡ Returns answer → sharing_next (shared_next s (last ∷ given)) ≡ Returns answer
 shares_stays s given last answer NotStarted is ends = absurd cc
 shares_stays s given last answer (Invokes call) is ends = absurd cc
-shares_stays s given last answer (Returns outcome) is ends = ap shares_next (end_stays s given outcome last is) ∙ ends
+shares_stays s given last answer (Returns outcome) is ends = ap sharing_next (end_stays s given outcome last is) ∙ ends
 
 -- an attempt's reply is final
 attempt_stays : (a : Attempt) (given : Inputs) (last : Option EventReply) (answer : LineReply) → attempt_next a given ≡ Returns answer
@@ -69,13 +69,13 @@ at_once answer ends =
 
 -- a stage that has ended before its first call has ended at once
 stage_not_begun : (stage : Stage) (job : Result Job CycleFault) (answer : LineReply)
-    → shares_next (next_at (stage_begun stage [] job)) ≡ Returns answer → EndsAtOnce answer
+    → sharing_next (next_at (stage_begun stage [] job)) ≡ Returns answer → EndsAtOnce answer
 stage_not_begun stage (Ok job) answer ends = absurd cc
 stage_not_begun stage (Err fault) answer ends = at_once answer ends
 
 -- a stage that has ended at its first call has ended at once
 stage_just_begun : (s : SharedJob) (stage : Stage) (job : Result Job CycleFault) (answer : LineReply)
-    → shares_next (next_at (progress_given s None (stage_begun stage [] job))) ≡ Returns answer → EndsAtOnce answer
+    → sharing_next (next_at (progress_given s None (stage_begun stage [] job))) ≡ Returns answer → EndsAtOnce answer
 stage_just_begun s stage (Ok job) answer ends = absurd cc
 stage_just_begun s stage (Err fault) answer ends = at_once answer ends
 
@@ -92,11 +92,11 @@ just_begun (Awaiting job want) answer ends = absurd cc
 just_begun (Sharing s) answer ends = stage_just_begun s (first_stage s.request) (stage_job s (first_stage s.request)) answer ends
 
 -- an attempt that has ended is the last one
-abbrev IsLast : Attempt → Attempts → Type 0
+abbrev IsLast : Attempt → AttemptsGiven → Type 0
 IsLast a made = (answer : LineReply) → attempt_next a made.given ≡ Returns answer → (asks_again answer && nat_lt 1 made.left) ≡ false
 
 -- after the next attempt has begun, if one is due, a current attempt that has ended is the last one
-last_attempt : (a : Attempt) (made : Attempts) → IsLast a (next_attempt made (attempt_next a made.given))
+last_attempt : (a : Attempt) (made : AttemptsGiven) → IsLast a (next_attempt made (attempt_next a made.given))
 last_attempt a made =
     elim (cases_Bool (next_wants_retry (attempt_next a made.given) && nat_lt 1 made.left)) [
       | inl more ↦ rw more (λ answer ends. rw (just_begun a answer ends).last refl)

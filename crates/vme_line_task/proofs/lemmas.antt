@@ -1,4 +1,5 @@
 pub mod Below
+pub mod Callers
 pub mod Calls
 pub mod Traces
 pub mod Kept

@@ -15,16 +15,16 @@ use Rattle.vme_line_task.specs.declared.task.LineTask.{LineTask}
 use Rattle.vme_line_task.specs.declared.task.LineTask.TheVariants.{Refused, Running}
 use Rattle.vme_line_task.specs.declared.attempt.Attempts.{Attempts}
 use Rattle.vme_line_task.specs.declared.attempt.AttemptTask.{AttemptTask}
-use Rattle.vme_line_task.specs.declared.attempt.AttemptTask.TheVariants as tries
+use Rattle.vme_line_task.specs.declared.attempt.AttemptTask.TheVariants as tasks
 use Rattle.vme_line_task.specs.Scripts.{Attempt, Transferring, Awaiting, Sharing, line_attempt}
-use Rattle.vme_line_task.specs.Tables.{transferring_next, waits_next, shares_next, next_wants_retry, given_of}
+use Rattle.vme_line_task.specs.Tables.{transferring_next, awaiting_next, sharing_next, next_wants_retry, given_of}
 use Rattle.vme_line_task.specs.Events.{IsCallBelow}
 
 -- the task of an attempt before its first call
 abbrev pub attempt_fresh : Attempt → AttemptTask
-attempt_fresh (Transferring job) = tries.Transfer (fresh_task job)
-attempt_fresh (Awaiting job want) = tries.Await (record { task = fresh_task job; want = record { items = want } })
-attempt_fresh (Sharing s) = tries.Shared (shared_fresh s)
+attempt_fresh (Transferring job) = tasks.Transfer (fresh_task job)
+attempt_fresh (Awaiting job want) = tasks.Await (record { task = fresh_task job; want = record { items = want } })
+attempt_fresh (Sharing s) = tasks.Shared (shared_fresh s)
 
 -- the task of an attempt before its first call, or the refusal
 abbrev pub fresh_of : Result Attempt CycleFault → Result AttemptTask CycleFault
@@ -33,21 +33,21 @@ fresh_of (Err fault) = Err fault
 
 -- an attempt put back before its first call
 abbrev pub attempt_anew : AttemptTask → AttemptTask
-attempt_anew (tries.Transfer t) = tries.Transfer (fresh_task t.job)
-attempt_anew (tries.Await w) = tries.Await (record { task = fresh_task w.task.job; want = w.want })
-attempt_anew (tries.Shared v) = tries.Shared (shared_fresh v.job)
+attempt_anew (tasks.Transfer t) = tasks.Transfer (fresh_task t.job)
+attempt_anew (tasks.Await w) = tasks.Await (record { task = fresh_task w.task.job; want = w.want })
+attempt_anew (tasks.Shared v) = tasks.Shared (shared_fresh v.job)
 
 -- an attempt after the next reply, or an absent one
 abbrev pub attempt_advance : AttemptTask → Option EventReply → AttemptTask
-attempt_advance (tries.Transfer t) given = tries.Transfer (advance t given)
-attempt_advance (tries.Await w) given = tries.Await (record { task = advance w.task given; want = w.want })
-attempt_advance (tries.Shared v) given = tries.Shared (shared_advance v given)
+attempt_advance (tasks.Transfer t) given = tasks.Transfer (advance t given)
+attempt_advance (tasks.Await w) given = tasks.Await (record { task = advance w.task given; want = w.want })
+attempt_advance (tasks.Shared v) given = tasks.Shared (shared_advance v given)
 
 -- what an attempt does next
 abbrev pub attempt_to_do : AttemptTask → NextStep LineReply
-attempt_to_do (tries.Transfer t) = transferring_next (to_do t)
-attempt_to_do (tries.Await w) = waits_next w.want.items (to_do w.task)
-attempt_to_do (tries.Shared v) = shares_next (shared_to_do v)
+attempt_to_do (tasks.Transfer t) = transferring_next (to_do t)
+attempt_to_do (tasks.Await w) = awaiting_next w.want.items (to_do w.task)
+attempt_to_do (tasks.Shared v) = sharing_next (shared_to_do v)
 
 -- what attempts do next: what the current one does
 abbrev pub attempts_to_do : Attempts → NextStep LineReply

@@ -6,7 +6,7 @@ use Rattle.vme_cycle.specs.Lawful.{Transfer, transfer_of}
 use Rattle.vme_master.specs.declared.job.Job.{Job}
 use Rattle.vme_master.specs.Jobs.{bus_job, local_job}
 use Rattle.vme_shared.specs.declared.request.SharedRequest.{SharedRequest}
-use Rattle.vme_shared.specs.declared.request.SharedRequest.TheVariants as events
+use Rattle.vme_shared.specs.declared.request.SharedRequest.TheVariants as shared_requests
 use Rattle.vme_shared.specs.declared.mailbox.Mailbox.{Mailbox}
 use Rattle.vme_shared.specs.Mailboxes.{IsMailbox, shared_refusal}
 use Rattle.vme_shared.specs.Tables.{SharedJob}
@@ -90,7 +90,7 @@ line_attempt config board (Local cmd) = Ok (Transferring (local_job board cmd))
 line_attempt config board (Await am addr bytes) =
     request_attempt (λ t. Awaiting (transfer_job config board t) bytes.items)
     (transfer_of (requests.Read am addr (length bytes.items)))
-line_attempt config board (Lock am addr) = shared_attempt config board (events.Lock am addr)
-line_attempt config board (Unlock am addr) = shared_attempt config board (events.Unlock am addr)
-line_attempt config board (Put box word) = shared_attempt config board (events.Put (mailbox_at config box) word)
-line_attempt config board (Take box) = shared_attempt config board (events.Take (mailbox_at config box))
+line_attempt config board (Lock am addr) = shared_attempt config board (shared_requests.Lock am addr)
+line_attempt config board (Unlock am addr) = shared_attempt config board (shared_requests.Unlock am addr)
+line_attempt config board (Put box word) = shared_attempt config board (shared_requests.Put (mailbox_at config box) word)
+line_attempt config board (Take box) = shared_attempt config board (shared_requests.Take (mailbox_at config box))

@@ -26,18 +26,18 @@ await_reply want (outcomes.Read bytes) = if bytes_eq bytes.items want then Met e
 await_reply want outcome = Transfer outcome
 
 -- a read that waits for bytes: the line's reply follows from the outcome of the read
-abbrev pub waits_next : List ℕ → NextStep Outcome → NextStep LineReply
-waits_next want next = next_map (await_reply want) next
+abbrev pub awaiting_next : List ℕ → NextStep Outcome → NextStep LineReply
+awaiting_next want next = next_map (await_reply want) next
 
 -- a request to a lock or a mailbox: its outcome is the line's reply
-abbrev pub shares_next : NextStep SharedOutcome → NextStep LineReply
-shares_next next = next_map Shared next
+abbrev pub sharing_next : NextStep SharedOutcome → NextStep LineReply
+sharing_next next = next_map Shared next
 
 -- what an attempt does next, by all that it was given
 abbrev pub attempt_next : Attempt → Inputs → NextStep LineReply
 attempt_next (Transferring job) given = transferring_next (next_of job given)
-attempt_next (Awaiting job want) given = waits_next want (next_of job given)
-attempt_next (Sharing s) given = shares_next (shared_next s given)
+attempt_next (Awaiting job want) given = awaiting_next want (next_of job given)
+attempt_next (Sharing s) given = sharing_next (shared_next s given)
 
 -- the replies after which another attempt is made: other bytes were read, the lock was busy, or the mailbox was full or
 -- empty
@@ -50,7 +50,7 @@ asks_again answer = false
 
 -- the attempts at a line: what the current one was given, the newest first, and how many are left, the current one
 -- among them
-pub record Attempts : Type 0 where
+pub record AttemptsGiven : Type 0 where
   pub given : Inputs
   pub left : ℕ
 
@@ -61,17 +61,17 @@ next_wants_retry next = false
 
 -- an attempt that asks for another is followed by the next, which begins at once, if one is left; any other reply is
 -- the line's
-abbrev pub next_attempt : Attempts → NextStep LineReply → Attempts
+abbrev pub next_attempt : AttemptsGiven → NextStep LineReply → AttemptsGiven
 next_attempt made next =
     if next_wants_retry next && nat_lt 1 made.left then record { given = None ∷ []; left = made.left - 1 } else made
 
 -- the attempts after one more reply, or an absent one
-abbrev pub attempt_given : Attempt → Option EventReply → Attempts → Attempts
+abbrev pub attempt_given : Attempt → Option EventReply → AttemptsGiven → AttemptsGiven
 attempt_given attempt last made =
     next_attempt (record { given = last ∷ made.given; left = made.left }) (attempt_next attempt (last ∷ made.given))
 
 -- the attempts, at most `tries`, by all that the line was given, the newest first
-abbrev pub attempts_of : Attempt → ℕ → Inputs → Attempts
+abbrev pub attempts_of : Attempt → ℕ → Inputs → AttemptsGiven
 attempts_of attempt tries [] = record { given = []; left = tries }
 attempts_of attempt tries (last ∷ before) = attempt_given attempt last (attempts_of attempt tries before)
 

@@ -1,20 +1,22 @@
 //! Attempts at a line, one after another.
-ghost use Rattle.std.specs.Prelude.{◌≡◌, ◌≢◌, ◌<◌, option_map, option_copied, is_some, Some, None};
+ghost use Rattle.std.specs.Prelude.{◌≡◌, ◌≢◌, ◌<◌, option_map, option_copied, is_some, Some, None, IfSome, IfOk, IfErr};
 ghost use Rattle.vme_core.specs.EventRefs.{call_asked};
 ghost use Rattle.vme_core.specs.Machines.{process_count};
 ghost use Rattle.vme_core.specs.NextSteps.{NotStarted, call_in, result_in};
 ghost use Rattle.vme_core.specs.Advances.{CanMake, AdvancesOn, ends_by_call};
+ghost use Rattle.vme_master.specs.Callers.{AdvancesBy};
+ghost use Rattle.vme_master.specs.Machine.{advance, to_do};
 ghost use Rattle.vme_shared.specs.Machine.{shared_to_do};
 ghost use Rattle.vme_line_task.specs.Attempts.{shared_attempts};
 ghost use Rattle.vme_line_task.specs.CurrentData.{attempt_datum, attempt_command};
-ghost use Rattle.vme_line_task.specs.Tables.{next_wants_retry, shares_next};
+ghost use Rattle.vme_line_task.specs.Tables.{next_wants_retry, sharing_next};
 ghost use Rattle.vme_line_task.specs.Events.{reply_in};
 ghost use Rattle.vme_line_task.specs.Machine.{attempt_advance, attempt_to_do, attempts_again, attempts_advance, attempts_to_do};
 
 use crate::reply::LineReplyRef;
 use crate::wait::AwaitTask;
 use vme_core::{Core, EventRef, EventReply};
-use vme_master::{CurrentDatum, Task};
+use vme_master::{Caller, CurrentDatum, Task, call_event};
 use vme_memory::BoardCmd;
 use vme_shared::{LineReply, SharedOutcome, SharedTask};
 
@@ -76,6 +78,27 @@ impl Attempts<'_> {
             AttemptTask::Transfer(task) => task.finishes_on(core, who),
             AttemptTask::Await(wait) => wait.finishes_on(&mut self.left, core, who),
             AttemptTask::Shared(task) => shared_finishes_on(task, &mut self.left, core, who),
+        }
+    }
+
+    /// Performs the current attempt's next event by a call of `caller`, gives the attempt the reply
+    /// and returns whether the line has ended with this event. Another attempt may begin.
+    ///
+    /// # Errors
+    /// The fault of the call. The attempts are unchanged.
+    #[inline(always)]
+    pub(crate) fn finishes_by<E, C>(&mut self, caller: &mut C, with: &E) -> Result<bool, C::Fault>
+    where
+        C: Caller<E>,
+        requires { IfSome (call_in (attempts_to_do self.old)) (C.can with.now caller.old) }
+        ensures step { IfOk result (λ _. AdvancesBy C.made attempts_to_do attempts_advance caller.old caller.new self.old self.new) }
+        ensures ended { IfOk result (λ ended. ended ≡ ends_by_call attempts_to_do self.old self.new) }
+        ensures unchanged { IfErr result (λ _. self.new ≡ self.old) }
+    {
+        match &mut self.attempt {
+            AttemptTask::Transfer(task) => transfer_finishes_by(task, caller, with),
+            AttemptTask::Await(wait) => wait.finishes_by(&mut self.left, caller, with),
+            AttemptTask::Shared(task) => shared_finishes_by(task, &mut self.left, caller, with),
         }
     }
 }
@@ -190,6 +213,51 @@ fn shared_finishes_on(
     task.outcome().is_some()
 }
 
+/// Performs the next event of a transfer or a local command by a call of `caller`, as
+/// `Task::finishes_by` does. It has no `inline`, since `vme run` makes no attempts at such lines.
+///
+/// # Errors
+/// The fault of the call. The task is unchanged.
+fn transfer_finishes_by<E, C: Caller<E>>(
+    task: &mut Task<'_>,
+    caller: &mut C,
+    with: &E,
+) -> Result<bool, C::Fault>
+    requires { IfSome (call_in (to_do task.old)) (C.can with.now caller.old) }
+    ensures step { IfOk result (λ _. AdvancesBy C.made to_do advance caller.old caller.new task.old task.new) }
+    ensures ended { IfOk result (λ ended. ended ≡ ends_by_call to_do task.old task.new) }
+    ensures unchanged { IfErr result (λ _. task.new ≡ task.old) }
+{
+    task.finishes_by(caller, with)
+}
+
+/// Performs the next event of an attempt at a lock or a mailbox by a call of `caller`, as
+/// `shared_finishes_on` does on a core.
+///
+/// # Errors
+/// The fault of the call. The attempt is unchanged.
+fn shared_finishes_by<E, C: Caller<E>>(
+    task: &mut SharedTask<'_>,
+    left: &mut u32,
+    caller: &mut C,
+    with: &E,
+) -> Result<bool, C::Fault>
+    requires { IfSome (call_in (shared_to_do task.old)) (C.can with.now caller.old) }
+    ensures step { IfOk result (λ _. AdvancesBy C.made attempts_to_do attempts_advance caller.old caller.new
+        (shared_attempts task.old left.old) (shared_attempts task.new left.new)) }
+    ensures ended { IfOk result (λ ended.
+        ended ≡ ends_by_call attempts_to_do (shared_attempts task.old left.old) (shared_attempts task.new left.new)) }
+    ensures unchanged { IfErr result (λ _. shared_attempts task.new left.new ≡ shared_attempts task.old left.old) }
+{
+    let Some(event) = task.event_ref() else {
+        return Ok(false);
+    };
+    let reply = call_event(caller, with, &event)?;
+    task.advance(Some(&reply));
+    shared_retry(task, left);
+    Ok(task.outcome().is_some())
+}
+
 /// Begins another attempt at a lock or a mailbox, if the current one has ended with a reply that
 /// asks for it and another is left.
 #[inline(always)]
@@ -208,7 +276,7 @@ fn shared_retry(task: &mut SharedTask<'_>, left: &mut u32)
 
 /// Returns whether a lock or a mailbox has ended with a reply that asks for another attempt.
 fn shared_wants_retry(task: &SharedTask<'_>) -> bool
-    ensures { result ≡ next_wants_retry (shares_next (shared_to_do task.now)) }
+    ensures { result ≡ next_wants_retry (sharing_next (shared_to_do task.now)) }
 {
     matches!(
         task.outcome(),
@@ -218,7 +286,7 @@ fn shared_wants_retry(task: &SharedTask<'_>) -> bool
 
 /// Returns the reply of a line to a lock or a mailbox, if its task has ended.
 fn shared_reply(task: &SharedTask<'_>) -> Option<LineReply>
-    ensures { result ≡ result_in (shares_next (shared_to_do task.now)) }
+    ensures { result ≡ result_in (sharing_next (shared_to_do task.now)) }
 {
     Some(LineReply::Shared(task.outcome()?))
 }

@@ -1,18 +1,19 @@
 //! A line of a script as a task.
-ghost use Rattle.std.specs.Prelude.{◌≡◌, ◌≢◌, ◌<◌, ◌≤◌, ◌∷◌, [], ℕ, length, option_map, option_copied, is_some, slice_get, Some, None};
+ghost use Rattle.std.specs.Prelude.{◌≡◌, ◌≢◌, ◌<◌, ◌≤◌, ◌∷◌, [], ℕ, length, option_map, option_copied, is_some, slice_get, Some, None, IfSome, IfOk, IfErr};
 ghost use Rattle.vme_core.specs.EventRefs.{call_asked};
 ghost use Rattle.vme_core.specs.Machines.{process_count};
 ghost use Rattle.vme_core.specs.NextSteps.{NotStarted, call_in, result_in};
 ghost use Rattle.vme_core.specs.Advances.{CanMake, AdvancesOn, ends_by_call};
 ghost use Rattle.vme_grammar.specs.declared.line.Line.{Line as AnyLine};
 ghost use Rattle.vme_script.specs.Configurations.{Configuration};
+ghost use Rattle.vme_master.specs.Callers.{AdvancesBy};
 ghost use Rattle.vme_master.specs.Tables.{Inputs};
 ghost use Rattle.vme_line_task.specs.Scripts.{HasItsMailbox, lines_at};
 ghost use Rattle.vme_line_task.specs.ReadBuffers.{line_read_len};
 ghost use Rattle.vme_line_task.specs.CurrentData.{line_datum, line_command};
 ghost use Rattle.vme_line_task.specs.Tables.{next_given};
 ghost use Rattle.vme_line_task.specs.Machine.{line_started, line_advance, line_to_do, line_given, attempts_left, IsLineBelow};
-ghost use Rattle.vme_line_task.specs.declared.attempt.AttemptTask.TheVariants as tries;
+ghost use Rattle.vme_line_task.specs.declared.attempt.AttemptTask.TheVariants as tasks;
 ghost use Rattle.vme_line_task.specs.declared.task.LineTask.TheVariants.{Running};
 ghost use Rattle.vme_line_task.specs.Events.{call_of_todo, reply_in, IsTodoBelow};
 
@@ -23,7 +24,7 @@ use crate::todo::LineTodo;
 use vme_core::{Core, EventRef, EventReply};
 use vme_cycle::{BlockBuffer, CycleFault};
 use vme_grammar::Line;
-use vme_master::{CurrentDatum, Task};
+use vme_master::{Caller, CurrentDatum, Task};
 use vme_memory::BoardCmd;
 use vme_script::Config;
 use vme_shared::LineReply;
@@ -118,8 +119,31 @@ impl<'a> LineTask<'a> {
         }
     }
 
-    /// Returns how far the transfer over the bus has come, or `None` for a local command and for a
-    /// lock or a mailbox that has ended.
+    /// Performs the next event by a call of `caller`, gives the line the reply and returns whether
+    /// the line has ended with this event. Without a next event nothing changes. With one, this is
+    /// `event_ref`, `call_event`, `advance` and `is_finished` in one, and faster for a transfer and
+    /// for a read that waits.
+    ///
+    /// # Errors
+    /// The fault of the call. The line is unchanged.
+    #[inline(always)]
+    pub fn finishes_by<E, C>(&mut self, caller: &mut C, with: &E) -> Result<bool, C::Fault>
+    where
+        C: Caller<E>,
+        requires { IfSome (call_in (line_to_do self.old)) (C.can with.now caller.old) }
+        ensures step { IfOk result (λ _. AdvancesBy C.made line_to_do line_advance caller.old caller.new self.old self.new) }
+        ensures below { IfOk result (λ _. (n : ℕ) → IsLineBelow n self.old → IsLineBelow n self.new) }
+        ensures ended { IfOk result (λ ended. ended ≡ ends_by_call line_to_do self.old self.new) }
+        ensures unchanged { IfErr result (λ _. self.new ≡ self.old) }
+    {
+        match self {
+            LineTask::Refused(_) => Ok(false),
+            LineTask::Running(attempts) => attempts.finishes_by(caller, with),
+        }
+    }
+
+    /// Returns how far the transfer over the bus has come, or `None` for a refused line, for a local
+    /// command and for a lock or a mailbox that has ended.
     pub fn current_datum(&self) -> Option<CurrentDatum<'_>>
         ensures { result ≡ line_datum self.now }
     {
@@ -229,7 +253,7 @@ impl<'a> LineTask<'a> {
 /// Returns the line of a transfer or a local command, which is attempted once, whatever `left` is.
 #[inline(always)]
 fn transfer_line(task: Task<'_>, left: u32) -> LineTask<'_>
-    ensures { result ≡ Running (record { attempt = tries.Transfer task.entry; left = left }) }
+    ensures { result ≡ Running (record { attempt = tasks.Transfer task.entry; left = left }) }
 {
     LineTask::Running(Attempts {
         attempt: AttemptTask::Transfer(task),

@@ -8,7 +8,7 @@ use vme_core::{Event, EventRef};
 /// What a line does next.
 #[derive(Debug, Drop)]
 pub enum LineTodo {
-    /// The caller performs this event and gives the line the reply.
+    /// The driver performs this event and gives the line the reply.
     Call(Event),
     /// The line has ended. `LineTask::reply` lends its reply, and `LineTask::into_reply` returns
     /// it.

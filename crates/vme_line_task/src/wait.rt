@@ -1,13 +1,14 @@
 //! Reads that wait for bytes.
-ghost use Rattle.std.specs.Prelude.{◌≡◌, ◌≢◌, ◌<◌, option_map, option_copied, is_some};
+ghost use Rattle.std.specs.Prelude.{◌≡◌, ◌≢◌, ◌<◌, option_map, option_copied, is_some, IfSome, IfOk, IfErr};
 ghost use Rattle.std.specs.Str.{bytes_eq};
 ghost use Rattle.vme_core.specs.Advances.{CanMake, AdvancesOn, ends_by_call};
 ghost use Rattle.vme_core.specs.EventRefs.{call_asked};
 ghost use Rattle.vme_core.specs.Machines.{process_count};
 ghost use Rattle.vme_core.specs.NextSteps.{NotStarted, call_in, result_in};
+ghost use Rattle.vme_master.specs.Callers.{AdvancesBy};
 ghost use Rattle.vme_master.specs.CurrentData.{task_datum};
 ghost use Rattle.vme_master.specs.Machine.{advance, to_do};
-ghost use Rattle.vme_line_task.specs.Tables.{waits_next, next_wants_retry};
+ghost use Rattle.vme_line_task.specs.Tables.{awaiting_next, next_wants_retry};
 ghost use Rattle.vme_line_task.specs.Attempts.{read_attempts};
 ghost use Rattle.vme_line_task.specs.Machine.{attempts_again, attempts_advance, attempts_to_do};
 ghost use Rattle.vme_line_task.specs.Events.{reply_in};
@@ -15,7 +16,7 @@ ghost use Rattle.vme_line_task.specs.Events.{reply_in};
 use crate::reply::LineReplyRef;
 use vme_core::{Core, EventRef, EventReply};
 use vme_lanes::Datum;
-use vme_master::{CurrentDatum, Outcome, OutcomeRef, Task};
+use vme_master::{Caller, CurrentDatum, Outcome, OutcomeRef, Task};
 use vme_shared::LineReply;
 
 /// A read that waits for bytes, which are so few that they lie in the task itself.
@@ -38,7 +39,7 @@ impl<'a> AwaitTask<'a> {
     #[inline(always)]
     pub(crate) fn advance(&mut self, given: Option<&EventReply>)
         ensures task { self.new ≡ record self.old { task = advance self.old.task (option_copied given.entry) } }
-        ensures begun { waits_next self.new.want.items (to_do self.new.task) ≢ NotStarted }
+        ensures begun { awaiting_next self.new.want.items (to_do self.new.task) ≢ NotStarted }
     {
         self.task.advance(given);
     }
@@ -61,6 +62,31 @@ impl<'a> AwaitTask<'a> {
         self.task.is_finished()
     }
 
+    /// Performs the next event by a call of `caller`, as `finishes_on` does on a core.
+    ///
+    /// # Errors
+    /// The fault of the call. The read is unchanged.
+    #[inline(always)]
+    pub(crate) fn finishes_by<E, C: Caller<E>>(
+        &mut self,
+        left: &mut u32,
+        caller: &mut C,
+        with: &E,
+    ) -> Result<bool, C::Fault>
+        requires { IfSome (call_in (to_do self.old.task)) (C.can with.now caller.old) }
+        ensures step { IfOk result (λ _. AdvancesBy C.made attempts_to_do attempts_advance caller.old caller.new
+            (read_attempts self.old left.old) (read_attempts self.new left.new)) }
+        ensures ended { IfOk result (λ ended.
+            ended ≡ ends_by_call attempts_to_do (read_attempts self.old left.old) (read_attempts self.new left.new)) }
+        ensures unchanged { IfErr result (λ _. read_attempts self.new left.new ≡ read_attempts self.old left.old) }
+    {
+        if !self.task.finishes_by(caller, with)? {
+            return Ok(false);
+        }
+        self.retry(left);
+        Ok(self.task.is_finished())
+    }
+
     /// Begins another read, if this one has ended with other bytes than it waits for and another is
     /// left.
     #[inline(always)]
@@ -79,7 +105,7 @@ impl<'a> AwaitTask<'a> {
     /// Returns the event that comes next as a reference, if there is one, without the signals of a
     /// cycle.
     pub(crate) fn event_ref(&self) -> Option<EventRef<'_>>
-        ensures { option_map call_asked result ≡ call_in (waits_next self.now.want.items (to_do self.now.task)) }
+        ensures { option_map call_asked result ≡ call_in (awaiting_next self.now.want.items (to_do self.now.task)) }
     {
         self.task.event_ref()
     }
@@ -93,14 +119,14 @@ impl<'a> AwaitTask<'a> {
 
     /// Returns whether the read has ended.
     pub(crate) fn is_finished(&self) -> bool
-        ensures { result ≡ is_some (result_in (waits_next self.now.want.items (to_do self.now.task))) }
+        ensures { result ≡ is_some (result_in (awaiting_next self.now.want.items (to_do self.now.task))) }
     {
         self.task.is_finished()
     }
 
     /// Returns whether the read has ended with other bytes than it waits for.
     fn wants_retry(&self) -> bool
-        ensures { result ≡ next_wants_retry (waits_next self.now.want.items (to_do self.now.task)) }
+        ensures { result ≡ next_wants_retry (awaiting_next self.now.want.items (to_do self.now.task)) }
     {
         match self.task.outcome() {
             Some(OutcomeRef::Read(bytes)) => !self.is_met(bytes),
@@ -111,7 +137,7 @@ impl<'a> AwaitTask<'a> {
     /// Returns the line's reply by reference, if the read has ended: whether its bytes are those
     /// that it waits for.
     pub(crate) fn reply(&self) -> Option<LineReplyRef<'_>>
-        ensures { option_map reply_in result ≡ result_in (waits_next self.now.want.items (to_do self.now.task)) }
+        ensures { option_map reply_in result ≡ result_in (awaiting_next self.now.want.items (to_do self.now.task)) }
     {
         Some(match self.task.outcome()? {
             OutcomeRef::Read(bytes) if self.is_met(bytes) => LineReplyRef::Met,
@@ -122,7 +148,7 @@ impl<'a> AwaitTask<'a> {
 
     /// Consumes the read and returns the line's reply, if the read has ended.
     pub(crate) fn into_reply(self) -> Option<LineReply>
-        ensures { result ≡ result_in (waits_next self.entry.want.items (to_do self.entry.task)) }
+        ensures { result ≡ result_in (awaiting_next self.entry.want.items (to_do self.entry.task)) }
     {
         let wants_retry = self.wants_retry();
         Some(match self.task.into_outcome()? {

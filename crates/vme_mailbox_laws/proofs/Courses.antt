@@ -24,7 +24,7 @@ use Rattle.vme_shared.proofs.lemmas.Quiet.{no_put, no_taken}
 use Rattle.vme_shared.specs.declared.mailbox.Mailbox.{Mailbox}
 use Rattle.vme_shared.specs.declared.outcome.SharedOutcome.{SharedOutcome}
 use Rattle.vme_shared.specs.declared.request.SharedRequest.{SharedRequest}
-use Rattle.vme_shared.specs.declared.request.SharedRequest.TheVariants as events
+use Rattle.vme_shared.specs.declared.request.SharedRequest.TheVariants as shared_requests
 use Rattle.vme_shared.specs.declared.stage.Stage.{Stage}
 use Rattle.vme_shared.specs.declared.stage.Stage.TheVariants.{Locks}
 use Rattle.vme_shared.specs.declared.stage.Stage.TheVariants as stages
@@ -76,10 +76,10 @@ unmoved m board request progress at after put taken same stands =
 
 -- a mailbox of a put or a take has a slot
 asked_slot : (request : SharedRequest) (mailbox : Mailbox) → mailbox_in request ≡ Some mailbox → IsWellFormed request → 1 ≤ mailbox.slots
-asked_slot (events.Lock am addr) mailbox is formed = absurd cc
-asked_slot (events.Unlock am addr) mailbox is formed = absurd cc
-asked_slot (events.Put own word) mailbox is formed = let same : own ≡ mailbox = cc in subst (λ (o : Mailbox). 1 ≤ o.slots) same formed.some_slot
-asked_slot (events.Take own) mailbox is formed = let same : own ≡ mailbox = cc in subst (λ (o : Mailbox). 1 ≤ o.slots) same formed.some_slot
+asked_slot (shared_requests.Lock am addr) mailbox is formed = absurd cc
+asked_slot (shared_requests.Unlock am addr) mailbox is formed = absurd cc
+asked_slot (shared_requests.Put own word) mailbox is formed = let same : own ≡ mailbox = cc in subst (λ (o : Mailbox). 1 ≤ o.slots) same formed.some_slot
+asked_slot (shared_requests.Take own) mailbox is formed = let same : own ≡ mailbox = cc in subst (λ (o : Mailbox). 1 ≤ o.slots) same formed.some_slot
 
 -- the mailbox that a put or a take uses has a slot
 pub some_slot : (s : SharedJob) (board : ℕ) (m : BoardMailbox) → UsesMailbox s board m → 1 ≤ m.slots
@@ -110,12 +110,12 @@ module _ (s : SharedJob) (board : ℕ) (m : BoardMailbox) (uses : UsesMailbox s 
     where
       by_request : (request : SharedRequest) → s.request ≡ request
           → Stands m board s.request (stage_begun (first_stage s.request) [] (stage_job s (first_stage s.request))) (Some Idle) [] []
-      by_request (events.Lock am addr) same = let none = ap mailbox_in (sym same) ∙ uses.asked in absurd cc
-      by_request (events.Unlock am addr) same = let none = ap mailbox_in (sym same) ∙ uses.asked in absurd cc
-      by_request (events.Put own word) same =
+      by_request (shared_requests.Lock am addr) same = let none = ap mailbox_in (sym same) ∙ uses.asked in absurd cc
+      by_request (shared_requests.Unlock am addr) same = let none = ap mailbox_in (sym same) ∙ uses.asked in absurd cc
+      by_request (shared_requests.Put own word) same =
           let first : first_stage s.request ≡ Locks = ap first_stage same in
           rw first (begun Locks [] (stage_job s Locks) (Some Idle) Idle [] [] refl refl refl (refl, refl) (λ bus. waits_fresh bus))
-      by_request (events.Take own) same =
+      by_request (shared_requests.Take own) same =
           let first : first_stage s.request ≡ Locks = ap first_stage same in
           rw first (begun Locks [] (stage_job s Locks) (Some Idle) Idle [] [] refl refl refl (refl, refl) (λ bus. waits_fresh bus))
 

@@ -26,7 +26,7 @@ use Rattle.vme_master.proofs.lemmas.Tenures.{data_go_on}
 use Rattle.vme_shared.specs.MailboxSteps.{BoardMailbox, LiesIn, touches}
 use Rattle.vme_shared.specs.declared.mailbox.Mailbox.{Mailbox}
 use Rattle.vme_shared.specs.declared.request.SharedRequest.{SharedRequest}
-use Rattle.vme_shared.specs.declared.request.SharedRequest.TheVariants as events
+use Rattle.vme_shared.specs.declared.request.SharedRequest.TheVariants as shared_requests
 use Rattle.vme_shared.specs.declared.stage.Stage.{Stage}
 use Rattle.vme_shared.specs.declared.stage.StageResult.{StageResult}
 use Rattle.vme_shared.specs.declared.stage.StageResult.TheVariants.{Continue, Finish}
@@ -80,10 +80,10 @@ sent_in s request (Err fault) job g x command one is made makes = absurd cc
 
 -- each transfer has one datum
 single : (request : SharedRequest) (stage : Stage) → count_of (stage_request request stage) ≡ 1
-single (events.Lock am addr) stage = refl
-single (events.Unlock am addr) stage = refl
-single (events.Put mailbox word) stage = (shape mailbox (record { offset = 0; slots = mailbox.slots }) stage refl).count
-single (events.Take mailbox) stage = (shape mailbox (record { offset = 0; slots = mailbox.slots }) stage refl).count
+single (shared_requests.Lock am addr) stage = refl
+single (shared_requests.Unlock am addr) stage = refl
+single (shared_requests.Put mailbox word) stage = (shape mailbox (record { offset = 0; slots = mailbox.slots }) stage refl).count
+single (shared_requests.Take mailbox) stage = (shape mailbox (record { offset = 0; slots = mailbox.slots }) stage refl).count
 
 -- at each progress the command to a board is the datum of a stage
 sent_at : (s : SharedJob) (progress : Progress) (x : ℕ) (command : Option Command) → OwnJob s progress → next_at progress ≡ Invokes (OnBoard x command)
@@ -156,7 +156,7 @@ answered s given board x m command memory uses lies makes =
     rw makes (rw own.1.1 fine)
 
 -- each command of a lock is the read-modify-write that sets it
-pub taken : (s : SharedJob) (given : Inputs) (am addr board : ℕ) (command : Option Command) → s.request ≡ events.Lock am addr
+pub taken : (s : SharedJob) (given : Inputs) (am addr board : ℕ) (command : Option Command) → s.request ≡ shared_requests.Lock am addr
     → shared_next s given ≡ Invokes (OnBoard board command) → GoesTo s.map am addr board (λ offset. Modify offset 1 Set) command
 taken s given am addr board command is makes =
     let out = sent s given board command makes in
@@ -164,7 +164,7 @@ taken s given am addr board command is makes =
     record { code = own.code; row = own.row; offset = own.offset; selected = own.selected; own = own.own }
 
 -- each command of an unlock is the write that clears the lock
-pub lock_cleared : (s : SharedJob) (given : Inputs) (am addr board : ℕ) (command : Option Command) → s.request ≡ events.Unlock am addr
+pub lock_cleared : (s : SharedJob) (given : Inputs) (am addr board : ℕ) (command : Option Command) → s.request ≡ shared_requests.Unlock am addr
     → shared_next s given ≡ Invokes (OnBoard board command) → GoesTo s.map am addr board (λ offset. Write offset (0 ∷ [])) command
 lock_cleared s given am addr board command is makes =
     let out = sent s given board command makes in

@@ -28,7 +28,7 @@ use Rattle.vme_shared.proofs.lemmas.Starts.{rests}
 use Rattle.vme_grammar.specs.declared.line.Line.{Line}
 use Rattle.vme_script.specs.Configurations.{Configuration}
 use Rattle.vme_line_task.specs.Scripts.{Sharing, line_attempt}
-use Rattle.vme_line_task.specs.Tables.{Attempts, shares_next, attempt_next, next_wants_retry, next_attempt, attempts_of, lawful_next, next_given, given_of, line_next}
+use Rattle.vme_line_task.specs.Tables.{AttemptsGiven, sharing_next, attempt_next, next_wants_retry, next_attempt, attempts_of, lawful_next, next_given, given_of, line_next}
 use Rattle.vme_line_task.specs.Traces.{Continues}
 use Rattle.vme_line_task.proofs.lemmas.Below.{shares_makes}
 use Rattle.vme_mailbox_laws.specs.Along.{UsesMailbox, IsGood, IsCount, phase_given, put_by_outcome, taken_by_outcome}
@@ -48,13 +48,13 @@ part_cons x m run = by_entry (board_entry x m.who m.event m.reply) refl
     by_entry (Some e) is = rw is refl
 
 -- the reply of a line is the outcome of its last attempt
-pub shares_ends : (n : NextStep SharedOutcome) (answer : LineReply) → shares_next n ≡ Returns answer → (outcome : SharedOutcome) × (n ≡ Returns outcome) × (answer ≡ Shared outcome)
+pub shares_ends : (n : NextStep SharedOutcome) (answer : LineReply) → sharing_next n ≡ Returns answer → (outcome : SharedOutcome) × (n ≡ Returns outcome) × (answer ≡ Shared outcome)
 shares_ends NotStarted answer is = absurd cc
 shares_ends (Invokes call) answer is = absurd cc
 shares_ends (Returns outcome) answer is = (outcome, refl, cc)
 
 -- an attempt that is followed by another has put and taken nothing
-again_ends : (n : NextStep SharedOutcome) → next_wants_retry (shares_next n) ≡ true
+again_ends : (n : NextStep SharedOutcome) → next_wants_retry (sharing_next n) ≡ true
     → (outcome : SharedOutcome) × (n ≡ Returns outcome) × ((request : SharedRequest) → put_by_outcome outcome request ≡ []) × (taken_by_outcome outcome ≡ [])
 again_ends NotStarted is = absurd cc
 again_ends (Invokes call) is = absurd cc
@@ -74,10 +74,10 @@ module _ (s : SharedJob) (board : ℕ) (m : BoardMailbox) (uses : UsesMailbox s 
       (moves s board m uses (progress_of s []) None (Some Idle) [] [] (opening s board m uses) good (subst IsCount (sym same) tt))
 
   -- with the next attempt in the place of one that has ended without success, the progress still matches
-  settles : (made : Attempts) (at : Option Phase) (put taken : List ℕ) → IsIn s board m uses made.given at put taken
+  settles : (made : AttemptsGiven) (at : Option Phase) (put taken : List ℕ) → IsIn s board m uses made.given at put taken
       → IsIn s board m uses (next_attempt made (attempt_next (Sharing s) made.given)).given at put taken
   settles made at put taken stands =
-      elim (cases_Bool (next_wants_retry (shares_next (shared_next s made.given)) && nat_lt 1 made.left)) [
+      elim (cases_Bool (next_wants_retry (sharing_next (shared_next s made.given)) && nat_lt 1 made.left)) [
         | inl again ↦
             let end = again_ends (shared_next s made.given) (and_parts _ _ again).0 in
             let over : IsOver s.request end.0 at put taken = ends_in m board s.request (progress_of s made.given) at put taken end.0 stands end.1 in
@@ -94,7 +94,7 @@ module _ (s : SharedJob) (board : ℕ) (m : BoardMailbox) (uses : UsesMailbox s 
 
     -- a line does next what its current attempt does next
     own_next : (replies : List EventReply)
-        → line_next config who line replies ≡ shares_next (shared_next s (attempts_of (Sharing s) config.tries (given_of replies)).given)
+        → line_next config who line replies ≡ sharing_next (shared_next s (attempts_of (Sharing s) config.tries (given_of replies)).given)
     unfolding next_given
     own_next replies = ap (λ a. lawful_next config.tries a (given_of replies)) is
 

@@ -18,7 +18,7 @@ use Rattle.vme_shared.specs.declared.mailbox.Mailbox.{Mailbox}
 use Rattle.vme_shared.specs.declared.outcome.SharedOutcome.{SharedOutcome}
 use Rattle.vme_shared.specs.declared.outcome.SharedOutcome.TheVariants as shared
 use Rattle.vme_shared.specs.declared.request.SharedRequest.{SharedRequest}
-use Rattle.vme_shared.specs.declared.request.SharedRequest.TheVariants as events
+use Rattle.vme_shared.specs.declared.request.SharedRequest.TheVariants as shared_requests
 use Rattle.vme_shared.specs.declared.stage.Stage.{Stage}
 use Rattle.vme_shared.specs.declared.stage.Stage.TheVariants.{Locks, ReadsPutCount, ReadsTakeCount, WritesWord, RaisesPutCount, ReadsWord, RaisesTakeCount, Unlocks}
 use Rattle.vme_shared.specs.declared.stage.StageResult.{StageResult}
@@ -44,9 +44,9 @@ Before m request Locks phase = phase ≡ Idle
 Before m request ReadsPutCount phase = phase ≡ Locked
 Before m request (ReadsTakeCount p) phase = (phase ≡ First p) × (p < 2 ^ 32)
 Before m request (WritesWord p word) phase =
-    (t : ℕ) × (mailbox : Mailbox) × (phase ≡ Both p t) × (has_space m p t ≡ true) × (request ≡ events.Put mailbox word)
+    (t : ℕ) × (mailbox : Mailbox) × (phase ≡ Both p t) × (has_space m p t ≡ true) × (request ≡ shared_requests.Put mailbox word)
 Before m request (RaisesPutCount p) phase =
-    (word : ℕ) × (mailbox : Mailbox) × (phase ≡ Written p (word % 2 ^ 32)) × (p < 2 ^ 32 - 1) × (request ≡ events.Put mailbox word)
+    (word : ℕ) × (mailbox : Mailbox) × (phase ≡ Written p (word % 2 ^ 32)) × (p < 2 ^ 32 - 1) × (request ≡ shared_requests.Put mailbox word)
 Before m request (ReadsWord t) phase = (p : ℕ) × (phase ≡ Both p t) × ((p == t) ≡ false)
 Before m request (RaisesTakeCount t word) phase = phase ≡ Fetched t word
 Before m request (Unlocks end) phase = BeforeUnlock end phase
@@ -107,10 +107,10 @@ module _ (m : BoardMailbox) (request : SharedRequest) (mailbox : Mailbox) (is : 
     where
       by_request : (request : SharedRequest) → mailbox_in request ≡ Some mailbox → (stage : Stage) (outcome : Outcome)
           → step_after request stage outcome ≡ mailbox_step request stage outcome
-      by_request (events.Lock am addr) is stage outcome = absurd cc
-      by_request (events.Unlock am addr) is stage outcome = absurd cc
-      by_request (events.Put own word) is stage outcome = refl
-      by_request (events.Take own) is stage outcome = refl
+      by_request (shared_requests.Lock am addr) is stage outcome = absurd cc
+      by_request (shared_requests.Unlock am addr) is stage outcome = absurd cc
+      by_request (shared_requests.Put own word) is stage outcome = refl
+      by_request (shared_requests.Take own) is stage outcome = refl
 
   -- a stage leads to the next phase to which its access and its step lead
   goes_by : (stage : Stage) (phase : Phase) (reply : Reply) (next : Phase) (step : StageResult)
@@ -157,9 +157,9 @@ module _ (m : BoardMailbox) (request : SharedRequest) (mailbox : Mailbox) (is : 
     where
       by_request : (request : SharedRequest) → mailbox_in request ≡ Some mailbox
           → Before m request (counted_stage request p t) (Both p t) × Words request (counted_stage request p t) (put ++ []) (taken ++ [])
-      by_request (events.Lock am addr) is = absurd cc
-      by_request (events.Unlock am addr) is = absurd cc
-      by_request (events.Put own word) is =
+      by_request (shared_requests.Lock am addr) is = absurd cc
+      by_request (shared_requests.Unlock am addr) is = absurd cc
+      by_request (shared_requests.Put own word) is =
           let same : own ≡ mailbox = cc in
           let capacity : m.slots ≡ own.slots = slots ∙ ap (λ (o : Mailbox). o.slots) (sym same) in
           elim (cases_Bool (p == 2 ^ 32 - 1)) [
@@ -174,7 +174,7 @@ module _ (m : BoardMailbox) (request : SharedRequest) (mailbox : Mailbox) (is : 
                       rw (less, free) ((t, own, refl, has, refl), (nothing put no_put, nothing taken no_taken))
                 ]
           ]
-      by_request (events.Take own) is =
+      by_request (shared_requests.Take own) is =
           elim (cases_Bool (p == t)) [
             | inl same ↦ rw same ((p, t, refl), (nothing put no_put, nothing taken no_taken))
             | inr other ↦ rw other ((p, refl, other), (nothing put no_put, nothing taken no_taken))
@@ -204,7 +204,7 @@ module _ (m : BoardMailbox) (request : SharedRequest) (mailbox : Mailbox) (is : 
   no_unlock n x = and_left _ _ (and_left _ _ (ne_eqb (places.word_at m n) (places.lock_at m) (λ same. omega arith)))
 
   -- the write of a word leads from the phase after both counts to the next phase
-  row_writes_word : (p t word : ℕ) (own : Mailbox) (reply : Reply) → has_space m p t ≡ true → request ≡ events.Put own word
+  row_writes_word : (p t word : ℕ) (own : Mailbox) (reply : Reply) → has_space m p t ≡ true → request ≡ shared_requests.Put own word
       → IsFine m (WritesWord p word) reply → Words request (WritesWord p word) put taken
       → Went m request (WritesWord p word) (Both p t) put taken reply
   row_writes_word p t word own (Bytes datum) has is_put fine none = let form = fine.form in absurd cc
@@ -219,7 +219,7 @@ module _ (m : BoardMailbox) (request : SharedRequest) (mailbox : Mailbox) (is : 
   row_writes_word p t word own Berr has is_put fine none = absurd (fine.good refl)
 
   -- the write of the put count leads from the phase after the written word to the next phase
-  row_raises_put_count : (p word : ℕ) (own : Mailbox) (reply : Reply) → p < 2 ^ 32 - 1 → request ≡ events.Put own word
+  row_raises_put_count : (p word : ℕ) (own : Mailbox) (reply : Reply) → p < 2 ^ 32 - 1 → request ≡ shared_requests.Put own word
       → IsFine m (RaisesPutCount p) reply → Words request (RaisesPutCount p) put taken
       → Went m request (RaisesPutCount p) (Written p (word % 2 ^ 32)) put taken reply
   row_raises_put_count p word own (Bytes datum) below is_put fine none = let form = fine.form in absurd cc

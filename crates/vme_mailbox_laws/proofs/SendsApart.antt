@@ -16,7 +16,7 @@ use Rattle.vme_master.specs.Jobs.{local_job}
 use Rattle.vme_master.proofs.lemmas.Locals.{local_calls}
 use Rattle.vme_shared.specs.MailboxSteps.{offset_of, len_of}
 use Rattle.vme_shared.specs.declared.request.SharedRequest.{SharedRequest}
-use Rattle.vme_shared.specs.declared.request.SharedRequest.TheVariants as events
+use Rattle.vme_shared.specs.declared.request.SharedRequest.TheVariants as shared_requests
 use Rattle.vme_shared.specs.Mailboxes.{set_lock, clear_lock, refusal_in, shared_refusal}
 use Rattle.vme_mailbox_laws.specs.Along.{GoesTo}
 use Rattle.vme_mailbox_laws.proofs.Datums.{taken, lock_cleared}
@@ -141,18 +141,18 @@ goes_among entries request x command_at c each none to =
 
 -- the command that sets a lock is among the bytes of the read-modify-write
 pub lock_sends : (config : Configuration) (who am addr x : ℕ) (c : Command)
-    → Calls (shared_attempt config who (events.Lock am addr)) (OnBoard x (Some c))
+    → Calls (shared_attempt config who (shared_requests.Lock am addr)) (OnBoard x (Some c))
     → Among (request_bytes (entries_of config.boards) (set_lock am addr)) x c
 lock_sends config who am addr x c calls =
-    let own = shared_calls config who (events.Lock am addr) (OnBoard x (Some c)) calls in
+    let own = shared_calls config who (shared_requests.Lock am addr) (OnBoard x (Some c)) calls in
     goes_among (entries_of config.boards) (set_lock am addr) x _ c (λ at. (refl, refl)) own.1
-    (taken (shared_job config who (events.Lock am addr)) own.0.0 am addr x (Some c) refl own.0.1)
+    (taken (shared_job config who (shared_requests.Lock am addr)) own.0.0 am addr x (Some c) refl own.0.1)
 
 -- the command that clears a lock is among the bytes of the write
 pub unlock_sends : (config : Configuration) (who am addr x : ℕ) (c : Command)
-    → Calls (shared_attempt config who (events.Unlock am addr)) (OnBoard x (Some c))
+    → Calls (shared_attempt config who (shared_requests.Unlock am addr)) (OnBoard x (Some c))
     → Among (request_bytes (entries_of config.boards) (clear_lock am addr)) x c
 unlock_sends config who am addr x c calls =
-    let own = shared_calls config who (events.Unlock am addr) (OnBoard x (Some c)) calls in
+    let own = shared_calls config who (shared_requests.Unlock am addr) (OnBoard x (Some c)) calls in
     goes_among (entries_of config.boards) (clear_lock am addr) x _ c (λ at. (refl, refl)) own.1
-    (lock_cleared (shared_job config who (events.Unlock am addr)) own.0.0 am addr x (Some c) refl own.0.1)
+    (lock_cleared (shared_job config who (shared_requests.Unlock am addr)) own.0.0 am addr x (Some c) refl own.0.1)

@@ -25,7 +25,7 @@ use Rattle.vme_shared.specs.MailboxSteps.{BoardMailbox, end_of, touches, offset_
 use Rattle.vme_shared.proofs.lemmas.Places.{rest_below}
 use Rattle.vme_shared.specs.declared.mailbox.Mailbox.{Mailbox}
 use Rattle.vme_shared.specs.declared.request.SharedRequest.{SharedRequest}
-use Rattle.vme_shared.specs.declared.request.SharedRequest.TheVariants as events
+use Rattle.vme_shared.specs.declared.request.SharedRequest.TheVariants as shared_requests
 use Rattle.vme_shared.specs.declared.stage.Stage.{Stage}
 use Rattle.vme_shared.specs.declared.stage.Stage.TheVariants.{Locks, ReadsPutCount, ReadsTakeCount, WritesWord, RaisesPutCount, ReadsWord, RaisesTakeCount, Unlocks}
 use Rattle.vme_shared.specs.Mailboxes.{raised, mailbox_request, stage_request}
@@ -126,10 +126,10 @@ shape mailbox m (Unlocks end) slots =
 -- a stage of a put or a take is a stage of its mailbox
 pub own_request : (request : SharedRequest) (mailbox : Mailbox) (stage : Stage) → mailbox_in request ≡ Some mailbox
     → stage_request request stage ≡ mailbox_request mailbox stage
-own_request (events.Lock am addr) mailbox stage is = absurd cc
-own_request (events.Unlock am addr) mailbox stage is = absurd cc
-own_request (events.Put own word) mailbox stage is = let same : own ≡ mailbox = cc in ap (λ o. mailbox_request o stage) same
-own_request (events.Take own) mailbox stage is = let same : own ≡ mailbox = cc in ap (λ o. mailbox_request o stage) same
+own_request (shared_requests.Lock am addr) mailbox stage is = absurd cc
+own_request (shared_requests.Unlock am addr) mailbox stage is = absurd cc
+own_request (shared_requests.Put own word) mailbox stage is = let same : own ≡ mailbox = cc in ap (λ o. mailbox_request o stage) same
+own_request (shared_requests.Take own) mailbox stage is = let same : own ≡ mailbox = cc in ap (λ o. mailbox_request o stage) same
 
 -- a bus job of one datum, which sends the command of a stage to the board of the mailbox
 pub record IsStage (m : BoardMailbox) (board : ℕ) (stage : Stage) (job : Job) : Type 0 where

@@ -20,16 +20,16 @@ use Rattle.vme_shared.specs.declared.mailbox.Mailbox.{Mailbox}
 use Rattle.vme_shared.specs.declared.outcome.SharedOutcome.{SharedOutcome}
 use Rattle.vme_shared.specs.declared.outcome.SharedOutcome.TheVariants as shared
 use Rattle.vme_shared.specs.declared.request.SharedRequest.{SharedRequest}
-use Rattle.vme_shared.specs.declared.request.SharedRequest.TheVariants as events
+use Rattle.vme_shared.specs.declared.request.SharedRequest.TheVariants as shared_requests
 use Rattle.vme_shared.specs.Mailboxes.{IsWellFormed, shared_refusal}
 use Rattle.vme_shared.specs.Tables.{SharedJob, shared_next}
 
 -- the mailbox of a put or a take
 abbrev pub mailbox_in : SharedRequest → Option Mailbox
-mailbox_in (events.Lock am addr) = None
-mailbox_in (events.Unlock am addr) = None
-mailbox_in (events.Put mailbox word) = Some mailbox
-mailbox_in (events.Take mailbox) = Some mailbox
+mailbox_in (shared_requests.Lock am addr) = None
+mailbox_in (shared_requests.Unlock am addr) = None
+mailbox_in (shared_requests.Put mailbox word) = Some mailbox
+mailbox_in (shared_requests.Take mailbox) = Some mailbox
 
 -- a mailbox lies in a board of a map: each of its addresses selects the board, at the same distance from the first byte
 pub record LiesAt (map : List Entry) (mailbox : Mailbox) (board : ℕ) (m : BoardMailbox) : Type 0 where
@@ -87,7 +87,7 @@ AllCounts m board s (last ∷ before) = IsCount (phase_along m board s (last ∷
 
 -- the words that a put reports by its outcome: its word, as four bytes, if it was put
 abbrev pub put_by_outcome : SharedOutcome → SharedRequest → List ℕ
-put_by_outcome shared.Put (events.Put mailbox word) = word % 2 ^ 32 ∷ []
+put_by_outcome shared.Put (shared_requests.Put mailbox word) = word % 2 ^ 32 ∷ []
 put_by_outcome outcome request = []
 
 -- the words that a take reports by its outcome

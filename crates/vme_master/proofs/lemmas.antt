@@ -1,3 +1,4 @@
+pub mod Callers
 pub mod Expected
 pub mod Locals
 pub mod ReadLengths

@@ -1,3 +1,4 @@
+pub mod Callers
 pub mod Jobs
 pub mod Tables
 pub mod Machine

@@ -79,7 +79,7 @@ pub fn transfers_keep_their_tenure()
         next_of (Bus job) given ≡ Invokes (OnBus cmd) →
         (cmd ≡ arb_commands.Ask job.slot job.level)
         ⊎ ((cmd ≡ arb_commands.Look job.slot) ⊎ (cmd ≡ arb_commands.Done job.slot)) }
-    ensures turns { (job : BusJob) (given : Inputs) (cmd : ArbCmd) → IsTrue (is_level job.level) →
+    ensures command_allowed { (job : BusJob) (given : Inputs) (cmd : ArbCmd) → IsTrue (is_level job.level) →
         next_of (Bus job) given ≡ Invokes (OnBus cmd) →
         IsTrue (may_give job.slot (last_arb_reply given) cmd) }
     ensures holds { (job : BusJob) (given : Inputs) (board : ℕ) (command : Option Command) →

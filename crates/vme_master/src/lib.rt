@@ -2,10 +2,12 @@
 //! (arbitration).
 //!
 //! A `Task` returns, call by call, the next event of a transfer over the bus or of a command to a
-//! board's local port, and at last its outcome. Its caller performs the events, on one thread or on
+//! board's local port, and at last its outcome. A driver performs the events, on one thread or on
 //! several.
 #![tactic(auto)]
 
+mod caller;
+mod calls;
 mod current;
 mod expected;
 mod job;
@@ -15,6 +17,7 @@ mod phase;
 mod task;
 mod todo;
 
+pub use caller::{Caller, call_event};
 pub use current::CurrentDatum;
 pub use laws::{
     boards_are_of_the_map, data_go_in_order, replies_fit, tasks_go_by_the_table,

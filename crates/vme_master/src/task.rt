@@ -6,9 +6,7 @@ ghost use Rattle.vme_core.specs.declared.event.EventReply.TheVariants as replies
 ghost use Rattle.vme_master.specs.declared.job.Job.{Job as AnyJob};
 ghost use Rattle.vme_master.specs.Jobs.{bus_job, local_job};
 ghost use Rattle.vme_core.specs.EventRefs.{call_asked};
-ghost use Rattle.vme_core.specs.Machines.{process_count};
 ghost use Rattle.vme_core.specs.NextSteps.{NotStarted, call_in, result_in};
-ghost use Rattle.vme_core.specs.Advances.{CanMake, AdvancesOn, ends_by_call};
 ghost use Rattle.vme_master.specs.CurrentData.{task_datum, job_command};
 ghost use Rattle.vme_master.specs.Tables.{Inputs, next_of};
 ghost use Rattle.vme_master.specs.Machine.{bytes_of, fresh_task, bus_task, advance, task_given, to_do, is_called, job_read_len, IsPlaced};
@@ -21,8 +19,8 @@ use crate::outcome::{Outcome, OutcomeRef};
 use crate::phase::Phase;
 use crate::todo::Todo;
 use std::marker::Model;
-use vme_arbiter::{ArbCmd, ArbReply};
-use vme_core::{Core, EventRef, EventReply};
+use vme_arbiter::ArbReply;
+use vme_core::{EventRef, EventReply};
 use vme_cycle::{BlockBuffer, CycleFault, Request, Transfer};
 use vme_decode::AddressMap;
 use vme_memory::{BoardCmd, Reply};
@@ -33,8 +31,8 @@ use vme_memory::{BoardCmd, Reply};
 /// grow with the calls before.
 #[derive(Debug, Drop)]
 pub struct Task<'a> {
-    job: Job<'a>,
-    phase: Phase,
+    pub(crate) job: Job<'a>,
+    pub(crate) phase: Phase,
     read: BlockBuffer,
     // Facts of the job that every reply needs.
     expected: ExpectedReply,
@@ -185,77 +183,6 @@ impl<'a> Task<'a> {
         self.job.event_ref(self.phase)
     }
 
-    /// Performs the next event on `core` for processor `who` and gives the task the reply. Without
-    /// a next event nothing changes. This is `event_ref`, `Core::apply_ref` and `advance` in one,
-    /// and faster, since neither event nor reply is copied in between.
-    #[inline(always)]
-    pub fn advance_on(&mut self, core: &mut Core, who: usize)
-        requires who { who < process_count core.old }
-        requires can { CanMake core.old (call_in (to_do self.old)) }
-        ensures { AdvancesOn to_do advance who core.old core.new self.old self.new }
-    {
-        self.finishes_on(core, who);
-    }
-
-    /// Performs the next event on `core` for processor `who` as `advance_on` does, and returns
-    /// whether the task has ended with this event.
-    #[inline(always)]
-    pub fn finishes_on(&mut self, core: &mut Core, who: usize) -> bool
-        requires who { who < process_count core.old }
-        requires can { CanMake core.old (call_in (to_do self.old)) }
-        ensures step { AdvancesOn to_do advance who core.old core.new self.old self.new }
-        ensures ended { result ≡ ends_by_call to_do self.old self.new }
-    {
-        match (&self.job, self.phase) {
-            (Job::Bus(job), Phase::Requesting) => {
-                let (slot, level) = (job.slot, job.level);
-                let reply = core.apply_bus(who, ArbCmd::Ask { slot, level });
-                self.on_bus_reply(Phase::Requesting, reply);
-                self.is_finished()
-            }
-            (Job::Bus(job), Phase::Polling) => {
-                let reply = core.apply_bus(who, ArbCmd::Look { slot: job.slot });
-                self.on_bus_reply(Phase::Polling, reply);
-                self.is_finished()
-            }
-            (Job::Bus(job), Phase::Releasing { berr }) => {
-                let reply = core.apply_bus(who, ArbCmd::Done { slot: job.slot });
-                self.on_bus_reply(Phase::Releasing { berr }, reply);
-                self.is_finished()
-            }
-            (Job::Bus(job), Phase::Transferring { i }) => {
-                let Some((board, offset)) = job.place else {
-                    return self.finishes_by_parts(core, who);
-                };
-                let reply = core.apply_datum(who, board, &job.datum_at(board, offset, i));
-                self.on_board_reply(Phase::Transferring { i }, &reply);
-                self.is_finished()
-            }
-            (Job::Local(job), Phase::Transferring { i }) => {
-                let reply = core.apply_board(who, job.board, &job.cmd);
-                self.on_board_reply(Phase::Transferring { i }, &reply);
-                self.is_finished()
-            }
-            _ => false,
-        }
-    }
-
-    /// Performs the next event as `finishes_on` does, by `event_ref`, `Core::apply_ref` and `advance`.
-    #[cold]
-    fn finishes_by_parts(&mut self, core: &mut Core, who: usize) -> bool
-        requires who { who < process_count core.old }
-        requires can { CanMake core.old (call_in (to_do self.old)) }
-        ensures step { AdvancesOn to_do advance who core.old core.new self.old self.new }
-        ensures ended { result ≡ ends_by_call to_do self.old self.new }
-    {
-        let Some(event) = self.event_ref() else {
-            return false;
-        };
-        let reply = core.apply_ref(who, &event);
-        self.advance(Some(&reply));
-        self.is_finished()
-    }
-
     /// Returns the datum that the task is at, if it is a transfer over the bus.
     pub fn current_datum(&self) -> Option<CurrentDatum<'_>>
         ensures { result ≡ task_datum self.now }
@@ -345,7 +272,7 @@ impl<'a> Task<'a> {
 
     /// Handles the arbiter's reply. `phase` is the task's own, which the caller knows.
     #[inline(always)]
-    fn on_bus_reply(&mut self, phase: Phase, reply: ArbReply)
+    pub(crate) fn on_bus_reply(&mut self, phase: Phase, reply: ArbReply)
         requires { self.old.phase ≡ phase }
         ensures task { self.new ≡ advance self.old (Some (replies.Bus reply)) }
         ensures called { IsTrue (is_called self.new.phase) }
@@ -360,7 +287,7 @@ impl<'a> Task<'a> {
 
     /// Handles a board's reply. `phase` is the task's own, which the caller knows.
     #[inline(always)]
-    fn on_board_reply(&mut self, phase: Phase, reply: &Reply)
+    pub(crate) fn on_board_reply(&mut self, phase: Phase, reply: &Reply)
         requires { self.old.phase ≡ phase }
         ensures task { self.new ≡ advance self.old (Some (replies.Board reply.now)) }
         ensures called { IsTrue (is_called self.new.phase) }

@@ -7,7 +7,7 @@ use vme_core::{Event, EventRef};
 /// What a task does next.
 #[derive(Debug, Drop)]
 pub enum Todo {
-    /// The caller performs this event and gives the task the reply.
+    /// The driver performs this event and gives the task the reply.
     Call(Event),
     /// The task has ended. `Task::outcome` returns its outcome by reference, and
     /// `Task::into_outcome` by value.

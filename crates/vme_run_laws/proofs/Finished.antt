@@ -16,7 +16,7 @@ use Rattle.vme_shared.specs.Tables.{shared_next}
 use Rattle.vme_grammar.specs.declared.line.Line.{Line}
 use Rattle.vme_script.specs.Configurations.{Configuration}
 use Rattle.vme_line_task.specs.Scripts.{Attempt, Transferring, Awaiting, Sharing, lines_at, line_attempt}
-use Rattle.vme_line_task.specs.Tables.{transferring_next, waits_next, shares_next, attempt_next, attempts_of, lawful_next, next_given}
+use Rattle.vme_line_task.specs.Tables.{transferring_next, awaiting_next, sharing_next, attempt_next, attempts_of, lawful_next, next_given}
 use Rattle.vme_line_task.specs.Traces.{IsTrace}
 use Rattle.vme_bus_objects.specs.Runs.{transitions_of}
 use Rattle.vme_threads.specs.declared.report.Report.{Report}
@@ -37,7 +37,7 @@ by_bytes true answer ends over = cc
 by_bytes false answer ends over = cc
 
 -- an awaited read does not end with `Unfinished`
-by_waits : (want : List ℕ) (next : NextStep Outcome) (answer : LineReply) → waits_next want next ≡ Returns answer
+by_waits : (want : List ℕ) (next : NextStep Outcome) (answer : LineReply) → awaiting_next want next ≡ Returns answer
     → answer ≢ Unfinished
 by_waits want NotStarted answer ends over = cc
 by_waits want (Invokes call) answer ends over = cc
@@ -45,7 +45,7 @@ by_waits want (Returns (outcomes.Read bytes)) answer ends over = by_bytes (bytes
 by_waits want (Returns outcome) answer ends over = cc
 
 -- a line of a lock or a mailbox does not end with `Unfinished`
-by_shares : (next : NextStep SharedOutcome) (answer : LineReply) → shares_next next ≡ Returns answer → answer ≢ Unfinished
+by_shares : (next : NextStep SharedOutcome) (answer : LineReply) → sharing_next next ≡ Returns answer → answer ≢ Unfinished
 by_shares NotStarted answer ends over = cc
 by_shares (Invokes call) answer ends over = cc
 by_shares (Returns outcome) answer ends over = cc

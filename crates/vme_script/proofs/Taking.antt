@@ -5,7 +5,7 @@ use Rattle.vme_grammar.specs.declared.line.Line.{Line}
 use Rattle.vme_grammar.specs.declared.fault.LineFault.{LineFault}
 use Rattle.vme_grammar.specs.Grammar.{line_of}
 use Rattle.vme_script.specs.declared.context.ScriptContext.{ScriptContext}
-use Rattle.vme_script.specs.Contexts.{refusal_of, line_within}
+use Rattle.vme_script.specs.Contexts.{refusal_of}
 use Rattle.vme_script.proofs.Asked.{empty, forbidden, allowed}
 use Rattle.vme_script.specs.declared.fault.ScriptRefusal.{ScriptRefusal}
 use Rattle.vme_script.specs.declared.fault.ScriptRefusal.TheVariants.{BadLine}

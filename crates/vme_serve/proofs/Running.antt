@@ -19,7 +19,7 @@ use Rattle.vme_script.specs.declared.script.ScriptLine.{ScriptLine}
 use Rattle.vme_script.specs.Configurations.{Configuration}
 use Rattle.vme_script.specs.Lawful.{IsLawful}
 use Rattle.vme_line_task.specs.Scripts.{Attempt, slot_at, line_attempt}
-use Rattle.vme_line_task.specs.Tables.{Attempts, attempt_next, next_wants_retry, attempt_given, attempts_of, lawful_next, next_given, given_of, line_next}
+use Rattle.vme_line_task.specs.Tables.{AttemptsGiven, attempt_next, next_wants_retry, attempt_given, attempts_of, lawful_next, next_given, given_of, line_next}
 use Rattle.vme_line_task.specs.Traces.{ScriptState}
 use Rattle.vme_stepper.specs.Turns.{SystemState, script_state, settled, lines_left, turn_in, turn_at, board_in_slot, turn, run}
 use Rattle.vme_serve.specs.Calls.{CallsMade, call_made, calls_made}
@@ -55,7 +55,7 @@ line_by_attempt : (config : Configuration) (scripts : List (List ScriptLine)) (b
 unfolding next_given
 line_by_attempt config scripts board line a reply_list is =
     ap (λ one. lawful_next 1 one (given_of reply_list)) (same_attempt config scripts board line ∙ is)
-    ∙ ap (λ (made : Attempts). attempt_next a made.given) (one_attempt a (given_of reply_list))
+    ∙ ap (λ (made : AttemptsGiven). attempt_next a made.given) (one_attempt a (given_of reply_list))
 
 -- a line whose request is refused has ended without a call
 line_by_refusal : (config : Configuration) (scripts : List (List ScriptLine)) (board : ℕ) (line : Line) (fault : CycleFault) (reply_list : List EventReply)

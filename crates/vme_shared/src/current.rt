@@ -58,7 +58,6 @@ impl CurrentTransfer<'_> {
 
     /// Performs the next event of the transfer at work on `core` for processor `who` and gives the
     /// transfer the reply. If this ends the transfer, returns what follows the transfer.
-    #[inline(always)]
     pub(crate) fn advance_on(
         &mut self,
         request: SharedRequest,
@@ -92,7 +91,6 @@ impl CurrentTransfer<'_> {
 
     /// If the first transfer has found the lock taken, begins it again in its place, with its first
     /// call made, and returns `true`. `step` is what follows the transfer.
-    #[inline(always)]
     pub(crate) fn retry(&mut self, request: SharedRequest, step: StageResult) -> bool
         ensures busy { IsTrue result → step ≡ Finish shared.Busy }
         ensures again { (s : SharedJob) → s.request ≡ request → IsOfStage s self.old → IsTrue result →
@@ -116,7 +114,6 @@ impl CurrentTransfer<'_> {
 }
 
 /// Returns what follows the transfer of a stage, if its bus task has ended.
-#[inline(always)]
 fn outcome_step(request: SharedRequest, stage: Stage, task: &Task<'_>) -> Option<StageResult>
     ensures { result ≡ option_map (step_after request stage) (result_in (to_do task.now)) }
 {

@@ -63,13 +63,13 @@ pub fn shared_tasks_call_boards_of_the_map()
 /// the reply is `Freed`, and no reply of the arbiter is left.
 pub fn shared_tasks_keep_their_tenure()
     ensures begin { (s : SharedJob) → shared_arb_reply s (None ∷ []) ≡ None }
-    ensures turns { (s : SharedJob) (given : Inputs) (cmd : ArbCmd) → IsTrue (is_level s.level) →
+    ensures command_allowed { (s : SharedJob) (given : Inputs) (cmd : ArbCmd) → IsTrue (is_level s.level) →
         shared_next s given ≡ Invokes (OnBus cmd) →
         IsTrue (may_give s.slot (shared_arb_reply s given) cmd) }
     ensures holds { (s : SharedJob) (given : Inputs) (board : ℕ) (command : Option Command) →
         shared_next s given ≡ Invokes (OnBoard board command) →
         shared_arb_reply s given ≡ Some arb_replies.Granted }
-    ensures turn { (s : SharedJob) (given : Inputs) (cmd : ArbCmd) (reply : ArbReply)
+    ensures slot_state { (s : SharedJob) (given : Inputs) (cmd : ArbCmd) (reply : ArbReply)
         (bus : Arbitration) (slot : ℕ) → shared_next s given ≡ Invokes (OnBus cmd) →
         IsTrue (fits (OnBus cmd) (replies.Bus reply)) → replies.Bus reply ≢ replies.Bus arb_replies.Denied →
         MatchesReply bus slot (Some reply) →

@@ -100,7 +100,6 @@ impl<'a> SharedTask<'a> {
     /// already taken, it may begin again in its place, with its first call made. Returns whether it
     /// has done so, which `may_retry` has to allow. This is faster than `restart` and `advance`,
     /// since no bus task is made anew.
-    #[inline(always)]
     pub fn advance_on_retrying(&mut self, core: &mut Core, who: usize, may_retry: bool) -> bool
         requires who { who < process_count core.old }
         requires can { CanMake core.old (call_in (shared_to_do self.old)) }

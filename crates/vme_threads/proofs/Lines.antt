@@ -1,5 +1,5 @@
 -- A line of a script as a line task, event by event.
-use Rattle.std.proofs.Common.{◌≡◌, ◌≢◌, ℕ, ◌<◌, List, [], ◌∷◌, ◌++◌, length, Some, None, refl, ap, sym, ◌∙◌}
+use Rattle.std.proofs.Common.{◌≡◌, ◌≢◌, ℕ, ◌<◌, List, [], ◌∷◌, ◌++◌, length, Option, Some, None, IfSome, refl, ap, sym, subst, ◌∙◌}
 use Rattle.std.specs.List.{slice_get}
 use Rattle.vme_core.specs.declared.event.EventReply.{EventReply}
 use Rattle.vme_core.specs.Calls.{Call, call_of}
@@ -18,11 +18,13 @@ use Rattle.vme_line_task.proofs.lemmas.Lines.{by_the_replies}
 use Rattle.vme_core.proofs.lemmas.NextSteps.{in_makes, ends_so}
 use Rattle.vme_line_task.proofs.lemmas.Below.{calls_below}
 use Rattle.vme_line_task.proofs.lemmas.Traces.{goes-snoc}
+use Rattle.vme_master.specs.Callers.{HasCalled, AdvancesBy}
 use Rattle.vme_threads.specs.declared.processor_pass.ProcessorPass.{ProcessorPass}
-use Rattle.vme_threads.specs.ProcessorPasses.{AddsTransitions, AddsCall}
+use Rattle.vme_threads.specs.declared.ports.Ports.{Ports}
+use Rattle.vme_threads.specs.ProcessorPasses.{MatchesPorts, AddsTransitions, AddsCall}
 use Rattle.vme_threads.specs.Rans.{AddsLine}
 use Rattle.vme_threads.proofs.Places.{element_at}
-use Rattle.vme_threads.proofs.ProcessorPasses.{made_none, made_more}
+use Rattle.vme_threads.proofs.ProcessorPasses.{made_none, made_more, fits_after}
 
 -- the line at a place of the script is in progress: a run of its events was made, and `task` is the line's task after them
 pub record IsLineInProgress (config : Configuration) (place : ℕ) (before now : ProcessorPass) (task : LineTask) : Type 0 where
@@ -107,3 +109,33 @@ line_end config place d e task answer at is = record {
 pub call_there : (n : ℕ) (task : LineTask) (call : Call) → IsLineBelow n task → Some call ≡ call_in (line_to_do task)
     → IsCallBelow n call
 call_there n task call below is = calls_below n task call below (in_makes (line_to_do task) call is)
+
+-- the next call of a line in progress can be made
+pub line_can :
+    (config : Configuration) (ports : Ports) (place : ℕ) (d e : ProcessorPass) (task : LineTask) → MatchesPorts ports d
+    → d.boards ≡ length config.boards → IsLineInProgress config place d e task
+    → IfSome (call_in (line_to_do task)) (λ call. MatchesPorts ports e × IsCallBelow e.boards call)
+line_can config ports place d e task fits same at = by (call_in (line_to_do task)) refl
+  where
+    by : (asked : Option Call) → asked ≡ call_in (line_to_do task)
+        → IfSome asked (λ call. MatchesPorts ports e × IsCallBelow e.boards call)
+    by None is = tt
+    by (Some call) is = (
+      fits_after ports at.run d e at.made fits,
+      subst (λ n. IsCallBelow n call) (sym (at.made.boards ∙ same)) (call_there (length config.boards) task call at.below is),
+    )
+
+-- a line is still in progress after its next call, if it has one
+pub line_called :
+    (config : Configuration) (place : ℕ) (d e f : ProcessorPass) (task new : LineTask) → IsLineInProgress config place d e task
+    → AdvancesBy AddsCall line_to_do line_advance e f task new → ((n : ℕ) → IsLineBelow n task → IsLineBelow n new)
+    → IsLineInProgress config place d f new
+line_called config place d e f task new at it below = by (call_in (line_to_do task)) refl it.step
+  where
+    by : (asked : Option Call) → asked ≡ call_in (line_to_do task) → HasCalled AddsCall line_advance asked e f task new
+        → IsLineInProgress config place d f new
+    by None is step =
+        subst (λ (x : ProcessorPass). IsLineInProgress config place d x new) (sym step.0)
+        (subst (λ (t : LineTask). IsLineInProgress config place d e t) (sym step.1) at)
+    by (Some call) is step =
+        line_more config place d e f call step.0 task new at is step.1 step.2 (it.begun at.begun) (below (length config.boards) at.below)

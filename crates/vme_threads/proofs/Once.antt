@@ -1,5 +1,5 @@
 -- Lines that are attempted once: commands to the local port and requests over the bus, event by event.
-use Rattle.std.proofs.Common.{◌≡◌, ◌≢◌, ℕ, ◌<◌, false, List, [], ◌∷◌, ◌++◌, length, map, Some, None, Result, Ok, Err, refl, ap, sym, subst, ◌∙◌}
+use Rattle.std.proofs.Common.{◌≡◌, ◌≢◌, ℕ, ◌<◌, false, List, [], ◌∷◌, ◌++◌, length, map, Option, Some, None, IfSome, Result, Ok, Err, refl, ap, sym, subst, ◌∙◌}
 use Rattle.std.specs.Prelude.{slice_get, IfOk}
 use Rattle.vme_memory.specs.declared.command.BoardCmd.{BoardCmd}
 use Rattle.vme_memory.specs.declared.reply.Reply.{Reply}
@@ -18,6 +18,7 @@ use Rattle.vme_master.specs.declared.outcome.Outcome.{Outcome}
 use Rattle.vme_master.specs.Jobs.{bus_job, local_job}
 use Rattle.vme_master.specs.Tables.{Inputs, next_of}
 use Rattle.vme_master.specs.Machine.{TaskView, fresh_task, bus_task, advance, task_given, to_do}
+use Rattle.vme_master.specs.Callers.{HasCalled, AdvancesBy}
 use Rattle.vme_master.proofs.lemmas.Stands.{by_the_table}
 use Rattle.vme_shared.specs.declared.reply.LineReply.{LineReply}
 use Rattle.vme_shared.specs.declared.reply.LineReply.TheVariants.{Transfer, Refused}
@@ -34,9 +35,10 @@ use Rattle.vme_line_task.proofs.lemmas.Below.{next_below}
 use Rattle.vme_line_task.proofs.lemmas.Traces.{goes-snoc}
 use Rattle.vme_port.specs.declared.fault.Spent.{Spent}
 use Rattle.vme_threads.specs.declared.processor_pass.ProcessorPass.{ProcessorPass}
-use Rattle.vme_threads.specs.ProcessorPasses.{AddsTransitions, AddsCall}
+use Rattle.vme_threads.specs.declared.ports.Ports.{Ports}
+use Rattle.vme_threads.specs.ProcessorPasses.{MatchesPorts, AddsTransitions, AddsCall}
 use Rattle.vme_threads.specs.Rans.{IsAnsweredBy, AddsLine}
-use Rattle.vme_threads.proofs.ProcessorPasses.{made_none, made_more}
+use Rattle.vme_threads.proofs.ProcessorPasses.{made_none, made_more, fits_after}
 use Rattle.vme_threads.proofs.Runs.{script_is}
 
 -- the outcome of a transfer or of a local command never asks for another attempt
@@ -227,3 +229,32 @@ request_end config request d e task outcome at is = record {
     ends = sym (request_next config request d e task at) ∙ ended (to_do task) outcome is;
   };
 }
+
+-- the next call of a request in progress can be made
+pub request_can :
+    (config : Configuration) (ports : Ports) (request : Request) (d e : ProcessorPass) (task : TaskView) → MatchesPorts ports d
+    → d.who < length config.boards → d.boards ≡ length config.boards → IsRequestInProgress config request d e task
+    → IfSome (call_in (to_do task)) (λ call. MatchesPorts ports e × IsCallBelow e.boards call)
+request_can config ports request d e task fits there same at = by (call_in (to_do task)) refl
+  where
+    by : (asked : Option Call) → asked ≡ call_in (to_do task)
+        → IfSome asked (λ call. MatchesPorts ports e × IsCallBelow e.boards call)
+    by None is = tt
+    by (Some call) is = (
+      fits_after ports at.run d e at.made fits,
+      request_below config request d e task e.boards call at there (sym (at.made.boards ∙ same)) is,
+    )
+
+-- a request is still in progress after its next call, if it has one
+pub request_called :
+    (config : Configuration) (request : Request) (d e f : ProcessorPass) (task new : TaskView)
+    → IsRequestInProgress config request d e task → AdvancesBy AddsCall to_do advance e f task new
+    → IsRequestInProgress config request d f new
+request_called config request d e f task new at it = by (call_in (to_do task)) refl it.step
+  where
+    by : (asked : Option Call) → asked ≡ call_in (to_do task) → HasCalled AddsCall advance asked e f task new
+        → IsRequestInProgress config request d f new
+    by None is step =
+        subst (λ (x : ProcessorPass). IsRequestInProgress config request d x new) (sym step.0)
+        (subst (λ (t : TaskView). IsRequestInProgress config request d e t) (sym step.1) at)
+    by (Some call) is step = request_more config request d e f call step.0 task new at is step.1 step.2 (it.begun at.begun)

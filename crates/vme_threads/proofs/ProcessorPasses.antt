@@ -7,9 +7,12 @@ use lib.ListN.{get_elem?}
 use Rattle.vme_object.specs.History.{entry}
 use Rattle.vme_arbiter.specs.Arbitration.{Arbitration, opening_bus}
 use Rattle.vme_core.specs.declared.event.EventReply.{EventReply}
+use Rattle.vme_core.specs.declared.event.EventReply.TheVariants as replies
 use Rattle.vme_core.specs.Runs.{Transition, move}
 use Rattle.vme_memory.specs.declared.command.BoardCmd.{BoardCmd}
+use Rattle.vme_memory.specs.declared.reply.Reply.{Reply}
 use Rattle.vme_arbiter.specs.declared.command.ArbCmd.{ArbCmd}
+use Rattle.vme_arbiter.specs.declared.command.ArbReply.{ArbReply}
 use Rattle.vme_port.proofs.lemmas.OneHistory.{makes_none, makes_more}
 use Rattle.vme_port_array.specs.Parts.{indexed, part}
 use Rattle.vme_port_array.specs.Arrays.{opening}
@@ -20,7 +23,7 @@ use Rattle.vme_bus_objects.specs.declared.object.BusObject.TheVariants as object
 use Rattle.vme_bus_objects.specs.declared.command.BusCommand.{BusCommand}
 use Rattle.vme_bus_objects.specs.declared.command.BusCommand.TheVariants as commands
 use Rattle.vme_bus_objects.specs.Objects.{bus_object_step}
-use Rattle.vme_bus_objects.specs.Runs.{BusEntry, event_at, transition_of, MatchesKindAt, MatchesKind, IsBoardReply, IsArbiterReply}
+use Rattle.vme_bus_objects.specs.Runs.{BusEntry, event_at, transition_of, MatchesKindAt, MatchesKind}
 use Rattle.vme_script.specs.Configurations.{Configuration, opening_memory}
 use Rattle.vme_threads.specs.declared.processor_pass.ProcessorPass.{ProcessorPass}
 use Rattle.vme_threads.specs.declared.worker.Worker.{Worker}
@@ -134,24 +137,26 @@ made_by_call ports d e index was cmd reply fits within value added kind who boar
 
 -- one call of a board is a run of one transition
 pub made_by_board :
-    (ports : Ports) (d e : ProcessorPass) (index was : ℕ) (cmd : BoardCmd) (reply : EventReply) → MatchesPorts ports d
+    (ports : Ports) (d e : ProcessorPass) (index was : ℕ) (cmd : BoardCmd) (given : EventReply) (reply : Reply) → MatchesPorts ports d
     → index < d.boards
     → was ≡ slice_index_or d.made.items index was
-    → Adds bus_object_step (opening ports.array) (entry d.pass.who (indexed index (commands.Board cmd)) reply ∷ []) d.pass e.pass
-    → IsBoardReply reply → e.who ≡ d.who → e.boards ≡ d.boards → e.made.items ≡ set d.made.items index (was + 1)
-    → AddsTransitions (move d.who (event_at index (commands.Board cmd)) reply ∷ []) d e
-made_by_board ports d e index was cmd reply fits within value added kind who boards made =
-    made_by_call ports d e index was (commands.Board cmd) reply fits (omega (arith, within)) value added
-    (subst (MatchesKindAt d.boards index (commands.Board cmd)) (sym kind.1) within) who boards made
+    → Adds bus_object_step (opening ports.array) (entry d.pass.who (indexed index (commands.Board cmd)) given ∷ []) d.pass e.pass
+    → given ≡ replies.Board reply → e.who ≡ d.who → e.boards ≡ d.boards → e.made.items ≡ set d.made.items index (was + 1)
+    → AddsTransitions (move d.who (event_at index (commands.Board cmd)) (replies.Board reply) ∷ []) d e
+made_by_board ports d e index was cmd given reply fits within value added is who boards made =
+    subst (λ (r : EventReply). AddsTransitions (move d.who (event_at index (commands.Board cmd)) r ∷ []) d e) is
+    (made_by_call ports d e index was (commands.Board cmd) given fits (omega (arith, within)) value added
+    (subst (MatchesKindAt d.boards index (commands.Board cmd)) (sym is) within) who boards made)
 
 -- one call of the arbiter is a run of one transition
 pub made_by_bus :
-    (ports : Ports) (d e : ProcessorPass) (was : ℕ) (cmd : ArbCmd) (reply : EventReply) → MatchesPorts ports d
+    (ports : Ports) (d e : ProcessorPass) (was : ℕ) (cmd : ArbCmd) (given : EventReply) (reply : ArbReply) → MatchesPorts ports d
     → was ≡ slice_index_or d.made.items d.boards was
     → Adds bus_object_step (opening ports.array)
-    (entry d.pass.who (indexed d.boards (commands.Arbiter cmd)) reply ∷ []) d.pass e.pass
-    → IsArbiterReply reply → e.who ≡ d.who → e.boards ≡ d.boards → e.made.items ≡ set d.made.items d.boards (was + 1)
-    → AddsTransitions (move d.who (event_at d.boards (commands.Arbiter cmd)) reply ∷ []) d e
-made_by_bus ports d e was cmd reply fits value added kind who boards made =
-    made_by_call ports d e d.boards was (commands.Arbiter cmd) reply fits (omega arith) value added
-    (subst (MatchesKindAt d.boards d.boards (commands.Arbiter cmd)) (sym kind.1) refl) who boards made
+    (entry d.pass.who (indexed d.boards (commands.Arbiter cmd)) given ∷ []) d.pass e.pass
+    → given ≡ replies.Bus reply → e.who ≡ d.who → e.boards ≡ d.boards → e.made.items ≡ set d.made.items d.boards (was + 1)
+    → AddsTransitions (move d.who (event_at d.boards (commands.Arbiter cmd)) (replies.Bus reply) ∷ []) d e
+made_by_bus ports d e was cmd given reply fits value added is who boards made =
+    subst (λ (r : EventReply). AddsTransitions (move d.who (event_at d.boards (commands.Arbiter cmd)) r ∷ []) d e) is
+    (made_by_call ports d e d.boards was (commands.Arbiter cmd) given fits (omega arith) value added
+    (subst (MatchesKindAt d.boards d.boards (commands.Arbiter cmd)) (sym is) refl) who boards made)

@@ -21,10 +21,9 @@ ghost use Rattle.vme_threads.specs.ProcessorPasses.{MatchesPorts};
 ghost use Rattle.vme_threads.specs.Rans.{IsAnsweredBy, AddsLine};
 
 use crate::ports::Ports;
-use crate::processor_pass::ProcessorPass;
+use crate::processor_pass::{CallContext, ProcessorPass};
 use std::sync::Wait;
 use std::sync::atomic::Ordering;
-use vme_core::EventReply;
 use vme_cycle::{Block, BlockBuffer, Request};
 use vme_grammar::Line;
 use vme_master::{Outcome, Task};
@@ -87,10 +86,7 @@ impl ProcessorPass {
         if ports.stop.load(Ordering::SeqCst) {
             return Err(Spent);
         }
-        let EventReply::Board(reply) = self.call_board(rt, ports, self.who, &CommandRef { cmd })?
-        else {
-            unreachable!()
-        };
+        let reply = self.call_board(rt, ports, self.who, &CommandRef { cmd })?;
         Ok(LineReply::Transfer(local_outcome(cmd, reply)))
     }
 
@@ -120,16 +116,18 @@ impl ProcessorPass {
             Ok(task) => task,
             Err(fault) => return Ok(LineReply::Refused(fault)),
         };
+        let context = CallContext { rt, ports };
         task.advance(None);
+        if task.is_finished() {
+            return Ok(LineReply::Transfer(task.into_outcome().unwrap()));
+        }
         for _ in rt.forever() {
-            if task.is_finished() {
-                return Ok(LineReply::Transfer(task.into_outcome().unwrap()));
-            }
             if ports.stop.load(Ordering::SeqCst) {
                 return Err(Spent);
             }
-            let reply = self.call_event(rt, ports, &task.event_ref().unwrap())?;
-            task.advance(Some(&reply));
+            if task.finishes_by(self, &context)? {
+                return Ok(LineReply::Transfer(task.into_outcome().unwrap()));
+            }
         }
         unreachable!()
     }

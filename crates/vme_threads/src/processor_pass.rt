@@ -1,13 +1,11 @@
 ghost use Rattle.std.specs.Prelude.{◌≡◌, ◌<◌, ◌≤◌, ◌∷◌, [], length, slice_get, Some, IfOk};
 ghost use Rattle.vme_core.specs.declared.event.Event.TheVariants as events;
+ghost use Rattle.vme_core.specs.declared.event.EventReply.TheVariants as replies;
 ghost use Rattle.vme_core.specs.Runs.{move};
 ghost use Rattle.vme_grammar.specs.declared.line.Line.{Line};
-ghost use Rattle.vme_core.specs.EventRefs.{call_asked};
-ghost use Rattle.vme_bus_objects.specs.Runs.{IsBoardReply};
-ghost use Rattle.vme_line_task.specs.Events.{IsCallBelow};
 ghost use Rattle.vme_line_task.specs.ReadBuffers.{line_read_len};
 ghost use Rattle.vme_line_task.specs.Scripts.{lines_at};
-ghost use Rattle.vme_threads.specs.ProcessorPasses.{MatchesPorts, AddsTransitions, AddsCall};
+ghost use Rattle.vme_threads.specs.ProcessorPasses.{MatchesPorts, AddsTransitions};
 ghost use Rattle.vme_threads.specs.Rans.{AddsLine};
 
 use crate::ports::Ports;
@@ -17,10 +15,11 @@ use std::sync::atomic::Ordering;
 use vme_arbiter::{ArbCmd, ArbReply};
 use vme_bus_objects::{ArbiterOperation, BoardOperation, BusObject, replies_have_their_kind};
 use vme_bus_wait::WaitState;
-use vme_core::{EventRef, EventReply};
+use vme_core::{DatumCycle, EventReply};
 use vme_cycle::BlockBuffer;
 use vme_line_task::LineTask;
-use vme_memory::ByteMemory;
+use vme_master::Caller;
+use vme_memory::{BoardCmd, ByteMemory, Reply};
 use vme_object::{CommandRef, Operation};
 use vme_port::Spent;
 use vme_port_array::Pass;
@@ -52,26 +51,28 @@ impl ProcessorPass {
         rt: &R,
         ports: &Ports,
         cmd: &ArbCmd,
-    ) -> Result<EventReply, Spent>
+    ) -> Result<ArbReply, Spent>
         requires { MatchesPorts ports.now self.old }
         ensures { IfOk result (λ reply.
-            AddsTransitions (move self.old.who (events.Bus cmd.now) reply ∷ []) self.old self.new) }
+            AddsTransitions (move self.old.who (events.Bus cmd.now) (replies.Bus reply) ∷ []) self.old self.new) }
     {
         replies_have_their_kind();
         let releases = ports.waiters.releases();
         let operation = ArbiterOperation { cmd };
-        let reply = ports
+        let EventReply::Bus(reply) = ports
             .array
-            .call_operation(rt, &mut self.pass, self.boards, &operation)?;
+            .call_operation(rt, &mut self.pass, self.boards, &operation)?
+        else {
+            unreachable!()
+        };
         self.made[self.boards] += 1;
-        match &reply {
-            EventReply::Bus(ArbReply::Waiting) => ports
+        match reply {
+            ArbReply::Waiting => ports
                 .waiters
                 .wait(rt, self.who, releases, &mut self.wait_state),
-            EventReply::Bus(ArbReply::Granted) => ports.waiters.leave(&mut self.wait_state),
-            EventReply::Bus(ArbReply::Freed) => ports.waiters.release(&mut self.wait_state),
-            EventReply::Bus(ArbReply::Denied) => {}
-            EventReply::Board(_) => {}
+            ArbReply::Granted => ports.waiters.leave(&mut self.wait_state),
+            ArbReply::Freed => ports.waiters.release(&mut self.wait_state),
+            ArbReply::Denied => {}
         }
         Ok(reply)
     }
@@ -87,48 +88,23 @@ impl ProcessorPass {
         ports: &Ports,
         board: usize,
         cmd: &A,
-    ) -> Result<EventReply, Spent>
+    ) -> Result<Reply, Spent>
         requires fits { MatchesPorts ports.now self.old }
         requires there { board < self.old.boards }
-        ensures made { IfOk result (λ reply.
-            AddsTransitions (move self.old.who (events.Board board (A.command cmd.now)) reply ∷ [])
+        ensures { IfOk result (λ reply.
+            AddsTransitions (move self.old.who (events.Board board (A.command cmd.now)) (replies.Board reply) ∷ [])
             self.old self.new) }
-        ensures kind { IfOk result IsBoardReply }
     {
         replies_have_their_kind();
         let operation = BoardOperation { operation: cmd };
-        let reply = ports
+        let EventReply::Board(reply) = ports
             .array
-            .call_operation(rt, &mut self.pass, board, &operation)?;
+            .call_operation(rt, &mut self.pass, board, &operation)?
+        else {
+            unreachable!()
+        };
         self.made[board] += 1;
         Ok(reply)
-    }
-
-    /// Makes the event of `event_ref`, by one call of the arbiter or of the board that it names. It
-    /// passes commands by reference, and the datum of a transfer as its cycle, without a copy of
-    /// its data lanes.
-    ///
-    /// # Errors
-    /// `Spent` if the object has made 2^64 - 1 steps.
-    #[inline(always)]
-    pub(crate) fn call_event<R: Wait>(
-        &mut self,
-        rt: &R,
-        ports: &Ports,
-        event_ref: &EventRef<'_>,
-    ) -> Result<EventReply, Spent>
-        requires fits { MatchesPorts ports.now self.old }
-        requires there { IsCallBelow self.old.boards (call_asked event_ref.now) }
-        ensures { IfOk result (λ reply.
-            AddsCall (call_asked event_ref.now) reply self.old self.new) }
-    {
-        match event_ref {
-            EventRef::Bus(cmd) => self.call_bus(rt, ports, cmd),
-            EventRef::Board { board, cmd } => {
-                self.call_board(rt, ports, *board, &CommandRef { cmd: *cmd })
-            }
-            EventRef::Datum { board, cycle } => self.call_board(rt, ports, *board, cycle),
-        }
     }
 
     /// Runs one line of the script attempt by attempt, until it has its reply. `line` is the index
@@ -156,18 +132,20 @@ impl ProcessorPass {
         ensures { IfOk result (λ answer. AddsLine config.now line answer self.old self.new) }
     {
         let backoff = Backoff::new();
+        let context = CallContext { rt, ports };
         let mut task = LineTask::start(config, self.who, line, buffer);
         task.advance(None);
+        if task.is_finished() {
+            return Ok(task.into_reply().unwrap());
+        }
         for _ in rt.forever() {
-            if task.is_finished() {
-                return Ok(task.into_reply().unwrap());
-            }
             if ports.stop.load(Ordering::SeqCst) {
                 return Err(Spent);
             }
-            let reply = self.call_event(rt, ports, &task.event_ref().unwrap())?;
             let attempts = task.attempts_left();
-            task.advance(Some(&reply));
+            if task.finishes_by(self, &context)? {
+                return Ok(task.into_reply().unwrap());
+            }
             self.pause(&backoff, attempts, task.attempts_left());
         }
         unreachable!()
@@ -180,5 +158,47 @@ impl ProcessorPass {
         if left < before && self.boards > 1 {
             backoff.snooze();
         }
+    }
+}
+
+/// What the calls of a processor need besides its pass.
+#[derive(Drop)]
+pub(crate) struct CallContext<'a, R> {
+    pub(crate) rt: &'a R,
+    pub(crate) ports: &'a Ports,
+}
+
+impl<R: Wait> Caller<CallContext<'_, R>> for ProcessorPass {
+    ghost use Rattle.vme_line_task.specs.Events.{IsCallBelow};
+    ghost use Rattle.vme_threads.specs.ProcessorPasses.{MatchesPorts, AddsCall};
+
+    type Fault = Spent;
+
+    ghost can = { λ with pass call. MatchesPorts with.ports.now pass × IsCallBelow pass.boards call };
+
+    ghost made = { AddsCall };
+
+    #[inline(always)]
+    fn command_bus(&mut self, with: &CallContext<'_, R>, cmd: &ArbCmd) -> Result<ArbReply, Spent> {
+        self.call_bus(with.rt, with.ports, cmd)
+    }
+
+    fn command_board(
+        &mut self,
+        with: &CallContext<'_, R>,
+        board: usize,
+        cmd: &BoardCmd,
+    ) -> Result<Reply, Spent> {
+        self.call_board(with.rt, with.ports, board, &CommandRef { cmd })
+    }
+
+    #[inline(always)]
+    fn transfer_datum(
+        &mut self,
+        with: &CallContext<'_, R>,
+        board: usize,
+        cycle: &DatumCycle<'_>,
+    ) -> Result<Reply, Spent> {
+        self.call_board(with.rt, with.ports, board, cycle)
     }
 }

@@ -35,7 +35,7 @@ use Rattle.vme_line_task.specs.declared.task.LineTask.{LineTask}
 use Rattle.vme_line_task.specs.declared.task.LineTask.TheVariants.{Refused, Running}
 use Rattle.vme_line_task.specs.declared.attempt.Attempts.{Attempts}
 use Rattle.vme_line_task.specs.declared.attempt.AttemptTask.{AttemptTask}
-use Rattle.vme_line_task.specs.declared.attempt.AttemptTask.TheVariants as tries
+use Rattle.vme_line_task.specs.declared.attempt.AttemptTask.TheVariants as tasks
 use Rattle.vme_line_task.specs.Scripts.{Attempt, Awaiting, Sharing, line_attempt}
 use Rattle.vme_line_task.specs.Scripts as scripts
 use Rattle.vme_line_task.specs.Tables.{next_wants_retry}
@@ -164,15 +164,15 @@ current_after_due s (currents.Finished end) given due = tt
 
 -- an attempt after a reply
 attempt_due : (a : AttemptTask) (given : Option EventReply) → IsDue (attempt_view a) → IsDue (attempt_view (attempt_advance a given))
-attempt_due (tries.Transfer t) given due = advance_due t given due
-attempt_due (tries.Await w) given due = advance_due w.task given due
-attempt_due (tries.Shared v) given due = current_after_due v.job v.current given due
+attempt_due (tasks.Transfer t) given due = advance_due t given due
+attempt_due (tasks.Await w) given due = advance_due w.task given due
+attempt_due (tasks.Shared v) given due = current_after_due v.job v.current given due
 
 -- an attempt put back before its first call
 anew_due : (a : AttemptTask) → IsDue (attempt_view (attempt_anew a))
-anew_due (tries.Transfer t) = fresh_due t.job
-anew_due (tries.Await w) = fresh_due w.task.job
-anew_due (tries.Shared v) = stage_due (first_stage v.job.request) (stage_job v.job (first_stage v.job.request))
+anew_due (tasks.Transfer t) = fresh_due t.job
+anew_due (tasks.Await w) = fresh_due w.task.job
+anew_due (tasks.Shared v) = stage_due (first_stage v.job.request) (stage_job v.job (first_stage v.job.request))
 
 -- the attempts after one has ended
 again_due : (a : Attempts) (next : NextStep LineReply) → IsDue (attempt_view a.attempt) → IsDue (attempt_view (attempts_again a next).attempt)

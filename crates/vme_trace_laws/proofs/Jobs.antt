@@ -32,7 +32,7 @@ use Rattle.vme_line_task.specs.declared.task.LineTask.{LineTask}
 use Rattle.vme_line_task.specs.declared.task.LineTask.TheVariants.{Refused, Running}
 use Rattle.vme_line_task.specs.declared.attempt.Attempts.{Attempts}
 use Rattle.vme_line_task.specs.declared.attempt.AttemptTask.{AttemptTask}
-use Rattle.vme_line_task.specs.declared.attempt.AttemptTask.TheVariants as tries
+use Rattle.vme_line_task.specs.declared.attempt.AttemptTask.TheVariants as tasks
 use Rattle.vme_line_task.specs.Scripts.{Attempt, Transferring, Awaiting, Sharing, slot_at, level_at, mailbox_at, request_attempt, unless_refused, shared_job, shared_attempt, line_attempt}
 use Rattle.vme_line_task.specs.Scripts as scripts
 use Rattle.vme_line_task.specs.Tables.{next_wants_retry}
@@ -57,9 +57,9 @@ module _ (board slot level : ℕ) where
 
   -- the attempt at a line is of this slot and level, or of this board's local port
   abbrev pub IsOwnAttempt : AttemptTask → Type 0
-  IsOwnAttempt (tries.Transfer t) = IsOwnJob t.job
-  IsOwnAttempt (tries.Await w) = IsOwnTransfer w.task.job
-  IsOwnAttempt (tries.Shared v) = (v.job.slot ≡ slot) × (v.job.level ≡ level) × IsOwnCurrent v.current
+  IsOwnAttempt (tasks.Transfer t) = IsOwnJob t.job
+  IsOwnAttempt (tasks.Await w) = IsOwnTransfer w.task.job
+  IsOwnAttempt (tasks.Shared v) = (v.job.slot ≡ slot) × (v.job.level ≡ level) × IsOwnCurrent v.current
 
   -- the task of a line is of this slot and level, or of this board's local port
   abbrev pub IsOwnTask : LineTask → Type 0
@@ -109,9 +109,9 @@ module _ (board slot level : ℕ) where
 
   -- an attempt after one more reply, or an absent one
   attempt_advance_own : (a : AttemptTask) (last : Option EventReply) → IsOwnAttempt a → IsOwnAttempt (attempt_advance a last)
-  attempt_advance_own (tries.Transfer t) last own = subst IsOwnJob (sym (job_stays t t.phase last)) own
-  attempt_advance_own (tries.Await w) last own = subst IsOwnTransfer (sym (job_stays w.task w.task.phase last)) own
-  attempt_advance_own (tries.Shared v) last own = (own.0, own.1, after_own v.job v.current last own.0 own.1 own.2)
+  attempt_advance_own (tasks.Transfer t) last own = subst IsOwnJob (sym (job_stays t t.phase last)) own
+  attempt_advance_own (tasks.Await w) last own = subst IsOwnTransfer (sym (job_stays w.task w.task.phase last)) own
+  attempt_advance_own (tasks.Shared v) last own = (own.0, own.1, after_own v.job v.current last own.0 own.1 own.2)
 
   -- a lock or a mailbox before its first call
   first_own : (s : SharedJob) → s.slot ≡ slot → s.level ≡ level → IsOwnCurrent (stage_fresh (first_stage s.request) (stage_job s (first_stage s.request)))
@@ -121,9 +121,9 @@ module _ (board slot level : ℕ) where
 
   -- an attempt put back before its first call
   attempt_anew_own : (a : AttemptTask) → IsOwnAttempt a → IsOwnAttempt (attempt_anew a)
-  attempt_anew_own (tries.Transfer t) own = own
-  attempt_anew_own (tries.Await w) own = own
-  attempt_anew_own (tries.Shared v) own = (own.0, own.1, first_own v.job own.0 own.1)
+  attempt_anew_own (tasks.Transfer t) own = own
+  attempt_anew_own (tasks.Await w) own = own
+  attempt_anew_own (tasks.Shared v) own = (own.0, own.1, first_own v.job own.0 own.1)
 
   -- the attempts after one has ended
   again_own : (a : Attempts) (next : NextStep LineReply) → IsOwnAttempt a.attempt → IsOwnAttempt (attempts_again a next).attempt
@@ -183,9 +183,9 @@ module _ (board slot level : ℕ) where
 
   -- the transfer or the local command of an attempt
   own_attempt : (a : AttemptTask) → IsOwnAttempt a → IsOwnView (attempt_view a)
-  own_attempt (tries.Transfer t) own = own
-  own_attempt (tries.Await w) own = own_transfer w.task.job own
-  own_attempt (tries.Shared v) own = own_current v.current own.2
+  own_attempt (tasks.Transfer t) own = own
+  own_attempt (tasks.Await w) own = own_transfer w.task.job own
+  own_attempt (tasks.Shared v) own = own_current v.current own.2
 
   -- the transfer or the local command of a line
   pub own_view : (task : LineTask) → IsOwnTask task → IsOwnView (line_view task)

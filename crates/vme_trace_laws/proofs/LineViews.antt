@@ -33,10 +33,10 @@ use Rattle.vme_line_task.specs.declared.task.LineTask.{LineTask}
 use Rattle.vme_line_task.specs.declared.task.LineTask.TheVariants.{Refused, Running}
 use Rattle.vme_line_task.specs.declared.attempt.Attempts.{Attempts}
 use Rattle.vme_line_task.specs.declared.attempt.AttemptTask.{AttemptTask}
-use Rattle.vme_line_task.specs.declared.attempt.AttemptTask.TheVariants as tries
+use Rattle.vme_line_task.specs.declared.attempt.AttemptTask.TheVariants as tasks
 use Rattle.vme_line_task.specs.Scripts.{Attempt, Transferring, Awaiting, Sharing, line_attempt}
 use Rattle.vme_line_task.specs.CurrentData.{attempt_datum, line_datum}
-use Rattle.vme_line_task.specs.Tables.{await_reply, shares_next, next_wants_retry}
+use Rattle.vme_line_task.specs.Tables.{await_reply, sharing_next, next_wants_retry}
 use Rattle.vme_line_task.specs.Machine.{attempt_fresh, attempt_anew, attempt_advance, attempt_to_do, attempts_again, line_fresh, line_started, line_advance, line_to_do}
 use Rattle.vme_line_task.proofs.lemmas.Below.{transferring_makes, waits_makes, shares_makes}
 use Rattle.vme_stepper.specs.Steppers.{line_begun}
@@ -71,7 +71,7 @@ task_ended f t answer ends =
     job_ended t.job t.phase t.read outcome.0 outcome.1
 
 -- a lock or a mailbox whose task has ended does not hold the bus
-current_ended : (current : CurrentTransfer) (answer : LineReply) → shares_next (current_to_do current) ≡ Returns answer → holding (current_view current) ≡ false
+current_ended : (current : CurrentTransfer) (answer : LineReply) → sharing_next (current_to_do current) ≡ Returns answer → holding (current_view current) ≡ false
 current_ended (currents.Running stage task) answer ends =
     let end = map_ended answers.Shared (task_shown (to_do task)) answer ends in
     task_ended (λ outcome. outcomes.Denied) task end.0 end.1
@@ -79,9 +79,9 @@ current_ended (currents.Finished end) answer ends = refl
 
 -- an attempt that has ended does not hold the bus
 attempt_ended : (a : AttemptTask) (answer : LineReply) → attempt_to_do a ≡ Returns answer → holding (attempt_view a) ≡ false
-attempt_ended (tries.Transfer t) answer ends = task_ended answers.Transfer t answer ends
-attempt_ended (tries.Await w) answer ends = task_ended (await_reply w.want.items) w.task answer ends
-attempt_ended (tries.Shared v) answer ends = current_ended v.current answer ends
+attempt_ended (tasks.Transfer t) answer ends = task_ended answers.Transfer t answer ends
+attempt_ended (tasks.Await w) answer ends = task_ended (await_reply w.want.items) w.task answer ends
+attempt_ended (tasks.Shared v) answer ends = current_ended v.current answer ends
 
 -- a line that has ended does not hold the bus
 pub line_ended : (task : LineTask) (answer : LineReply) → line_to_do task ≡ Returns answer → holding (line_view task) ≡ false
@@ -115,9 +115,9 @@ current_after_like s (currents.Finished end) given = like_same None
 
 -- an attempt after a reply is like its transfer after it
 attempt_like : (a : AttemptTask) (given : Option EventReply) → IsLike (attempt_view (attempt_advance a given)) (view_after given (attempt_view a))
-attempt_like (tries.Transfer t) given = like_same (Some (advance t given))
-attempt_like (tries.Await w) given = like_same (Some (advance w.task given))
-attempt_like (tries.Shared v) given = current_after_like v.job v.current given
+attempt_like (tasks.Transfer t) given = like_same (Some (advance t given))
+attempt_like (tasks.Await w) given = like_same (Some (advance w.task given))
+attempt_like (tasks.Shared v) given = current_after_like v.job v.current given
 
 -- the first transfer of a lock or a mailbox does not hold the bus
 first_idle : (s : SharedJob) (stage : Stage) (job : Result Job CycleFault) → holding (view_after None (current_view (stage_fresh stage job))) ≡ false
@@ -126,9 +126,9 @@ first_idle s stage (Err fault) = refl
 
 -- an attempt that has just begun anew does not hold the bus
 anew_idle : (a : AttemptTask) → holding (view_after None (attempt_view (attempt_anew a))) ≡ false
-anew_idle (tries.Transfer t) = begun_idle t.job
-anew_idle (tries.Await w) = begun_idle w.task.job
-anew_idle (tries.Shared v) = first_idle v.job (first_stage v.job.request) (stage_job v.job (first_stage v.job.request))
+anew_idle (tasks.Transfer t) = begun_idle t.job
+anew_idle (tasks.Await w) = begun_idle w.task.job
+anew_idle (tasks.Shared v) = first_idle v.job (first_stage v.job.request) (stage_job v.job (first_stage v.job.request))
 
 -- the attempts after one has ended are like it
 again_like : (a : Attempts) (next : NextStep LineReply) → attempt_to_do a.attempt ≡ next → IsLike (attempt_view (attempts_again a next).attempt) (attempt_view a.attempt)
@@ -167,7 +167,7 @@ unfolding line_started
 line_idle config board line = fresh_idle config.tries (line_attempt config board line)
 
 -- the call of a lock or a mailbox is that of its transfer
-current_makes : (current : CurrentTransfer) (call : Call) → shares_next (current_to_do current) ≡ Invokes call
+current_makes : (current : CurrentTransfer) (call : Call) → sharing_next (current_to_do current) ≡ Invokes call
     → (t : TaskView) × (current_view current ≡ Some t) × (to_do t ≡ Invokes call)
 current_makes (currents.Running stage task) call made =
     (task, refl, map_makes (λ outcome. outcomes.Denied) (to_do task) call (shares_makes (task_shown (to_do task)) call made))
@@ -175,9 +175,9 @@ current_makes (currents.Finished end) call made = absurd cc
 
 -- the call of an attempt is that of its transfer or local command
 attempt_makes : (a : AttemptTask) (call : Call) → attempt_to_do a ≡ Invokes call → (t : TaskView) × (attempt_view a ≡ Some t) × (to_do t ≡ Invokes call)
-attempt_makes (tries.Transfer t) call made = (t, refl, transferring_makes (to_do t) call made)
-attempt_makes (tries.Await w) call made = (w.task, refl, waits_makes w.want.items (to_do w.task) call made)
-attempt_makes (tries.Shared v) call made = current_makes v.current call made
+attempt_makes (tasks.Transfer t) call made = (t, refl, transferring_makes (to_do t) call made)
+attempt_makes (tasks.Await w) call made = (w.task, refl, waits_makes w.want.items (to_do w.task) call made)
+attempt_makes (tasks.Shared v) call made = current_makes v.current call made
 
 -- the call of a line is that of its transfer or local command
 pub line_makes : (task : LineTask) (call : Call) → line_to_do task ≡ Invokes call → (t : TaskView) × (line_view task ≡ Some t) × (to_do t ≡ Invokes call)
@@ -191,9 +191,9 @@ current_datum (currents.Finished end) = refl
 
 -- the datum of an attempt
 attempt_datum_of : (a : AttemptTask) → attempt_datum a ≡ option_and_then task_datum (attempt_view a)
-attempt_datum_of (tries.Transfer t) = refl
-attempt_datum_of (tries.Await w) = refl
-attempt_datum_of (tries.Shared v) = current_datum v.current
+attempt_datum_of (tasks.Transfer t) = refl
+attempt_datum_of (tasks.Await w) = refl
+attempt_datum_of (tasks.Shared v) = current_datum v.current
 
 -- the datum of a line is that of its transfer
 pub line_datum_of : (task : LineTask) → line_datum task ≡ option_and_then task_datum (line_view task)

@@ -32,11 +32,11 @@ use Rattle.vme_master.specs.Tables.{Inputs}
 use Rattle.vme_line_task.specs.declared.task.LineTask.{LineTask}
 use Rattle.vme_line_task.specs.declared.task.LineTask.TheVariants.{Refused, Running}
 use Rattle.vme_line_task.specs.declared.attempt.AttemptTask.{AttemptTask}
-use Rattle.vme_line_task.specs.declared.attempt.AttemptTask.TheVariants as tries
+use Rattle.vme_line_task.specs.declared.attempt.AttemptTask.TheVariants as tasks
 use Rattle.vme_line_task.specs.Scripts.{slot_at, level_at}
 use Rattle.vme_line_task.specs.CurrentData.{line_datum, line_command}
 use Rattle.vme_line_task.specs.Machine.{attempt_to_do, line_to_do, line_given, line_after}
-use Rattle.vme_line_task.specs.Tables.{shares_next, given_of}
+use Rattle.vme_line_task.specs.Tables.{sharing_next, given_of}
 use Rattle.vme_line_task.specs.Traces.{ScriptState}
 use Rattle.vme_line_task.proofs.lemmas.Below.{transferring_makes, waits_makes, shares_makes, next_below}
 use Rattle.vme_line_task.proofs.lemmas.Lines.{by_the_given}
@@ -91,20 +91,20 @@ module _ (board slot level : ℕ) where
   -- the call of an attempt at a transfer or a local command
   transfer_shown : (left : ℕ) (job : Job) (phase : Phase) (read : List ℕ) (call : Call) → IsOwnJob board slot level job
       → job_next job phase read ≡ Invokes call
-      → IsShown (Running (record { attempt = tries.Transfer (record { job = job; phase = phase; read = read }); left = left })) call
+      → IsShown (Running (record { attempt = tasks.Transfer (record { job = job; phase = phase; read = read }); left = left })) call
   transfer_shown left (Bus job) phase read call own made =
-      let task : LineTask = Running (record { attempt = tries.Transfer (record { job = Bus job; phase = phase; read = read }); left = left }) in
+      let task : LineTask = Running (record { attempt = tasks.Transfer (record { job = Bus job; phase = phase; read = read }); left = left }) in
       bus_shown task job phase read call own.0 own.1 refl made
   transfer_shown left (Local job) phase read call own made =
-      let task : LineTask = Running (record { attempt = tries.Transfer (record { job = Local job; phase = phase; read = read }); left = left }) in
+      let task : LineTask = Running (record { attempt = tasks.Transfer (record { job = Local job; phase = phase; read = read }); left = left }) in
       local_shown task job phase read call own refl refl made
 
   -- the call of a read that waits for bytes
   await_shown : (left : ℕ) (job : Job) (phase : Phase) (read : List ℕ) (want : ArrayVec ℕ) (call : Call) → IsOwnTransfer board slot level job
       → job_next job phase read ≡ Invokes call
-      → IsShown (Running (record { attempt = tries.Await (record { task = record { job = job; phase = phase; read = read }; want = want }); left = left })) call
+      → IsShown (Running (record { attempt = tasks.Await (record { task = record { job = job; phase = phase; read = read }; want = want }); left = left })) call
   await_shown left (Bus job) phase read want call own made =
-      let task : LineTask = Running (record { attempt = tries.Await (record { task = record { job = Bus job; phase = phase; read = read }; want = want }); left = left }) in
+      let task : LineTask = Running (record { attempt = tasks.Await (record { task = record { job = Bus job; phase = phase; read = read }; want = want }); left = left }) in
       bus_shown task job phase read call own.0 own.1 refl made
   await_shown left (Local job) phase read want call own made = absurd own
 
@@ -112,19 +112,19 @@ module _ (board slot level : ℕ) where
   current_shown : (left : ℕ) (shared : SharedJob) (stage : Stage) (job : Job) (phase : Phase) (read : List ℕ) (call : Call) → IsOwnTransfer board slot level job
       → job_next job phase read ≡ Invokes call
       → IsShown (Running (record {
-        attempt = tries.Shared (record { job = shared; current = currents.Running stage (record { job = job; phase = phase; read = read }) });
+        attempt = tasks.Shared (record { job = shared; current = currents.Running stage (record { job = job; phase = phase; read = read }) });
         left = left;
       })) call
   current_shown left shared stage (Bus job) phase read call own made =
       let current = currents.Running stage (record { job = Bus job; phase = phase; read = read }) in
-      let task : LineTask = Running (record { attempt = tries.Shared (record { job = shared; current = current }); left = left }) in
+      let task : LineTask = Running (record { attempt = tasks.Shared (record { job = shared; current = current }); left = left }) in
       bus_shown task job phase read call own.0 own.1 refl made
   current_shown left shared stage (Local job) phase read call own made = absurd own
 
   -- the call of a lock or a mailbox, if it has not ended
   shared_shown : (left : ℕ) (shared : SharedJob) (current : CurrentTransfer) (call : Call) → IsOwnCurrent board slot level current
-      → shares_next (current_to_do current) ≡ Invokes call
-      → IsShown (Running (record { attempt = tries.Shared (record { job = shared; current = current }); left = left })) call
+      → sharing_next (current_to_do current) ≡ Invokes call
+      → IsShown (Running (record { attempt = tasks.Shared (record { job = shared; current = current }); left = left })) call
   shared_shown left shared (currents.Running stage t) call own made =
       current_shown left shared stage t.job t.phase t.read call own
       (map_makes (λ outcome. outcomes.Denied) (to_do t) call (shares_makes (task_shown (to_do t)) call made))
@@ -133,10 +133,10 @@ module _ (board slot level : ℕ) where
   -- the call of an attempt
   attempt_shown : (left : ℕ) (a : AttemptTask) (call : Call) → IsOwnAttempt board slot level a → attempt_to_do a ≡ Invokes call
       → IsShown (Running (record { attempt = a; left = left })) call
-  attempt_shown left (tries.Transfer t) call own made = transfer_shown left t.job t.phase t.read call own (transferring_makes (to_do t) call made)
-  attempt_shown left (tries.Await w) call own made =
+  attempt_shown left (tasks.Transfer t) call own made = transfer_shown left t.job t.phase t.read call own (transferring_makes (to_do t) call made)
+  attempt_shown left (tasks.Await w) call own made =
       await_shown left w.task.job w.task.phase w.task.read w.want call own (waits_makes w.want.items (to_do w.task) call made)
-  attempt_shown left (tries.Shared v) call own made = shared_shown left v.job v.current call own.2 made
+  attempt_shown left (tasks.Shared v) call own made = shared_shown left v.job v.current call own.2 made
 
   -- the call of a line
   task_shown_as : (task : LineTask) (call : Call) → IsOwnTask board slot level task → line_to_do task ≡ Invokes call → IsShown task call

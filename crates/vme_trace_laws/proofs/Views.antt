@@ -13,7 +13,7 @@ use Rattle.vme_shared.specs.declared.current.CurrentTransfer.TheVariants as curr
 use Rattle.vme_line_task.specs.declared.task.LineTask.{LineTask}
 use Rattle.vme_line_task.specs.declared.task.LineTask.TheVariants.{Refused, Running}
 use Rattle.vme_line_task.specs.declared.attempt.AttemptTask.{AttemptTask}
-use Rattle.vme_line_task.specs.declared.attempt.AttemptTask.TheVariants as tries
+use Rattle.vme_line_task.specs.declared.attempt.AttemptTask.TheVariants as tasks
 
 -- the task of the current transfer of a lock or a mailbox, if there is one
 abbrev pub current_view : CurrentTransfer → Option TaskView
@@ -22,9 +22,9 @@ current_view (currents.Finished end) = None
 
 -- the task of an attempt
 abbrev pub attempt_view : AttemptTask → Option TaskView
-attempt_view (tries.Transfer t) = Some t
-attempt_view (tries.Await w) = Some w.task
-attempt_view (tries.Shared v) = current_view v.current
+attempt_view (tasks.Transfer t) = Some t
+attempt_view (tasks.Await w) = Some w.task
+attempt_view (tasks.Shared v) = current_view v.current
 
 -- the transfer or the local command that a line's task is at, if there is one
 abbrev pub line_view : LineTask → Option TaskView

@@ -32,7 +32,7 @@ use Rattle.vme_line_task.specs.declared.task.LineTask.{LineTask}
 use Rattle.vme_line_task.specs.declared.todo.LineTodo.{LineTodo}
 use Rattle.vme_line_task.specs.declared.todo.LineTodo.TheVariants as todos
 use Rattle.vme_line_task.specs.Scripts.{Attempt, Transferring, Awaiting, Sharing, slot_at, level_at, mailbox_at, transfer_job, request_attempt, unless_refused, shared_job, shared_attempt, line_attempt}
-use Rattle.vme_line_task.specs.Tables.{transferring_next, await_reply, waits_next, shares_next, attempts_of, lawful_next, next_given}
+use Rattle.vme_line_task.specs.Tables.{transferring_next, await_reply, awaiting_next, sharing_next, attempts_of, lawful_next, next_given}
 use Rattle.vme_line_task.specs.Machine.{line_started, line_advance, line_to_do, line_advanced, IsLineBelow}
 use Rattle.vme_line_task.specs.Events.{call_of_todo, IsCallBelow, IsTodoBelow}
 use Rattle.vme_line_task.proofs.lemmas.Lines.{by_the_given}
@@ -86,11 +86,11 @@ pub transferring_makes : (next : NextStep Outcome) (call : Call) → transferrin
 transferring_makes next call made = map_makes answers.Transfer next call made
 
 -- a call of a read that waits for bytes is that of its task
-pub waits_makes : (want : List ℕ) (next : NextStep Outcome) (call : Call) → waits_next want next ≡ Invokes call → next ≡ Invokes call
+pub waits_makes : (want : List ℕ) (next : NextStep Outcome) (call : Call) → awaiting_next want next ≡ Invokes call → next ≡ Invokes call
 waits_makes want next call made = map_makes (await_reply want) next call made
 
 -- a call of a lock, an unlock, a put or a take is that of its task
-pub shares_makes : (next : NextStep SharedOutcome) (call : Call) → shares_next next ≡ Invokes call → next ≡ Invokes call
+pub shares_makes : (next : NextStep SharedOutcome) (call : Call) → sharing_next next ≡ Invokes call → next ≡ Invokes call
 shares_makes next call made = map_makes answers.Shared next call made
 
 -- each board that a job calls is among the first n

@@ -21,7 +21,7 @@ use Rattle.vme_line_task.specs.declared.attempt.AttemptTask.{AttemptTask}
 use Rattle.vme_line_task.specs.declared.attempt.AttemptTask.TheVariants.{Transfer, Await, Shared}
 use Rattle.vme_line_task.specs.declared.wait.AwaitTask.{AwaitTask}
 use Rattle.vme_line_task.specs.Attempts.{read_attempts, shared_attempts}
-use Rattle.vme_line_task.specs.Tables.{transferring_next, shares_next, await_reply, next_wants_retry}
+use Rattle.vme_line_task.specs.Tables.{transferring_next, sharing_next, await_reply, next_wants_retry}
 use Rattle.vme_line_task.specs.Machine.{line_advance, line_to_do, attempt_advance, attempt_to_do, attempts_again, attempts_advance, attempts_to_do}
 
 -- a transfer or a local command is attempted once
@@ -31,7 +31,7 @@ transferring_once (Invokes call) = refl
 transferring_once (Returns outcome) = refl
 
 -- attempts at a transfer advance as the transfer's task does
-transfer_on : (left : ℕ) (t : TaskView) (reply : Option EventReply)
+pub transfer_on : (left : ℕ) (t : TaskView) (reply : Option EventReply)
     → attempts_advance (record { attempt = Transfer t; left = left }) reply ≡ record { attempt = Transfer (advance t reply); left = left }
 transfer_on left t reply = rw (transferring_once (to_do (advance t reply))) refl
 
@@ -71,7 +71,7 @@ shares_advances who before after old new it =
     (λ v reply. refl) it
 
 -- whether a next step has a result, if the result is mapped
-map_result : {R S : Type 0} (f : R → S) (next : NextStep R) → is_some (result_in next) ≡ is_some (result_in (next_map f next))
+pub map_result : {R S : Type 0} (f : R → S) (next : NextStep R) → is_some (result_in next) ≡ is_some (result_in (next_map f next))
 map_result f NotStarted = refl
 map_result f (Invokes call) = refl
 map_result f (Returns result) = refl
@@ -101,7 +101,7 @@ had_no_call (Invokes call) new ended = absurd cc
 had_no_call (Returns result) new ended = refl
 
 -- what has ended with a call has made one
-called_first : (called ended : Bool) → (called && ended) ≡ true → called ≡ true
+pub called_first : (called ended : Bool) → (called && ended) ≡ true → called ≡ true
 called_first true ended both = refl
 called_first false ended both = absurd cc
 
@@ -111,7 +111,7 @@ called_then true ended is = refl
 called_then false ended is = absurd cc
 
 -- an attempt that has not ended asks for no other
-goes_on : (a : Attempts) (next : NextStep LineReply) → is_some (result_in next) ≡ false → attempts_again a next ≡ a
+pub goes_on : (a : Attempts) (next : NextStep LineReply) → is_some (result_in next) ≡ false → attempts_again a next ≡ a
 goes_on a NotStarted going = refl
 goes_on a (Invokes call) going = refl
 goes_on a (Returns answer) going = absurd cc
@@ -163,7 +163,7 @@ attempts_advance_going who before after old new final going it is begun =
         ∙ ap (λ (r : Machine × AttemptTask). (r.0, attempts_again (record { attempt = r.1; left = old.left }) (attempt_to_do r.1))) step
 
 -- what makes a call has not ended
-calls_going : {R : Type 0} (next : NextStep R) → is_some (call_in next) ≡ true → is_some (result_in next) ≡ false
+pub calls_going : {R : Type 0} (next : NextStep R) → is_some (call_in next) ≡ true → is_some (result_in next) ≡ false
 calls_going NotStarted made = absurd cc
 calls_going (Invokes call) made = refl
 calls_going (Returns result) made = absurd cc
@@ -185,7 +185,7 @@ retried_calls : (who : ℕ) (before after : Machine) (old new : SharedView) → 
 retried_calls who before after old new it = by (shared_to_do old) refl it.advances.step
   where
     by : (step : NextStep SharedOutcome) → shared_to_do old ≡ step
-        → (after, it.ended) ≡ advanced_on shared_advance (call_in step) who before old → is_some (call_in (shares_next step)) ≡ true
+        → (after, it.ended) ≡ advanced_on shared_advance (call_in step) who before old → is_some (call_in (sharing_next step)) ≡ true
     by NotStarted is made =
         let rests = ap (λ (r : Machine × SharedView). shared_to_do r.1) made ∙ is in
         let busy = it.busy in
@@ -205,7 +205,7 @@ pub shared_retries : (who : ℕ) (before after : Machine) (old new : SharedView)
     → AdvancesOn attempts_to_do attempts_advance who before after (shared_attempts old left) (shared_attempts new (left - 1))
 shared_retries who before after old new left it more =
     let wanted : next_wants_retry (attempt_to_do (Shared it.ended)) ≡ true =
-    ap (λ (next : NextStep SharedOutcome). next_wants_retry (shares_next next)) it.busy in
+    ap (λ (next : NextStep SharedOutcome). next_wants_retry (sharing_next next)) it.busy in
     attempts_advance_ended who before after (shared_attempts old left) (Shared it.ended) (shared_attempts new (left - 1))
     (rw (retried_calls who before after old new it, wants_after_end (attempt_to_do (Shared it.ended)) wanted) refl)
     (shares_advances who before after old it.ended it.advances)

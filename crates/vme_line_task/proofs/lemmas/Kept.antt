@@ -33,24 +33,24 @@ use Rattle.vme_grammar.specs.declared.line.Line.TheVariants as lines
 use Rattle.vme_grammar.specs.Grammar.{IsOwnLine}
 use Rattle.vme_script.specs.Configurations.{Configuration}
 use Rattle.vme_line_task.specs.Scripts.{Attempt, Transferring, Awaiting, Sharing, slot_at, level_at, mailbox_at, transfer_job, request_attempt, unless_refused, shared_job, shared_attempt, line_attempt}
-use Rattle.vme_line_task.specs.Tables.{attempt_next, asks_again, Attempts, next_attempt, attempts_of, lawful_next, next_given, line_next, given_of}
+use Rattle.vme_line_task.specs.Tables.{attempt_next, asks_again, AttemptsGiven, next_attempt, attempts_of, lawful_next, next_given, line_next, given_of}
 use Rattle.vme_line_task.specs.Tenures.{attempt_arb_reply, lawful_arb_reply, line_arb_reply, IsLocal, IsUndeniedReply, IsGranted}
 use Rattle.vme_line_task.proofs.lemmas.Below.{transferring_makes}
 use Rattle.vme_line_task.proofs.Ends.{just_begun}
 use Rattle.vme_line_task.proofs.Attempted.{attempt_begins, IsOwnAttempt, attempt_turns, IsTransfer, attempt_holds, attempt_turn, attempt_datum, attempt_ends}
 
 -- the attempts after the current one was given one more reply, or an absent one
-abbrev now_made : Attempts → Option EventReply → Attempts
+abbrev now_made : AttemptsGiven → Option EventReply → AttemptsGiven
 now_made made last = record { given = last ∷ made.given; left = made.left }
 
 -- the current attempt has ended, and another attempt begins
-record IsFollowed (made : Attempts) (next : NextStep LineReply) : Type 0 where
+record IsFollowed (made : AttemptsGiven) (next : NextStep LineReply) : Type 0 where
   answer : LineReply
   ended : next ≡ Returns answer
   begun : next_attempt made next ≡ record { given = None ∷ []; left = made.left - 1 }
 
 -- either the current attempt stays, or it has ended and another begins
-either : (made : Attempts) (next : NextStep LineReply) → (next_attempt made next ≡ made) ⊎ IsFollowed made next
+either : (made : AttemptsGiven) (next : NextStep LineReply) → (next_attempt made next ≡ made) ⊎ IsFollowed made next
 either made NotStarted = inl refl
 either made (Invokes call) = inl refl
 either made (Returns answer) =
@@ -98,10 +98,10 @@ line_own config board (lines.Take box) = shared_own config board (asked_shared.T
 -- at the first call of a line, its current attempt was given only an absent reply
 first_given : (tries : ℕ) (a : Attempt) → (attempts_of a tries (None ∷ [])).given ≡ None ∷ []
 first_given tries a =
-    let now : Attempts = record { given = None ∷ []; left = tries } in
+    let now : AttemptsGiven = record { given = None ∷ []; left = tries } in
     elim (either now (attempt_next a now.given)) [
-      | inl same ↦ ap (λ (m : Attempts). m.given) same
-      | inr next ↦ ap (λ (m : Attempts). m.given) next.begun
+      | inl same ↦ ap (λ (m : AttemptsGiven). m.given) same
+      | inr next ↦ ap (λ (m : AttemptsGiven). m.given) next.begun
     ]
 
 -- the attempts at a line begin without a reply of the arbiter
@@ -222,10 +222,10 @@ lawful_turn tries (Ok a) given cmd reply bus slot made good stands =
     let now = now_made was (Some (event_replies.Bus reply)) in
     let reported_now = attempt_turn a was.given cmd reply bus slot made good stands in
     elim (either now (attempt_next a now.given)) [
-      | inl same ↦ subst (λ (m : Attempts). MatchesReply bus slot (attempt_arb_reply a m.given)) (sym same) reported_now
+      | inl same ↦ subst (λ (m : AttemptsGiven). MatchesReply bus slot (attempt_arb_reply a m.given)) (sym same) reported_now
       | inr next ↦
           let ends = attempt_ends a was.given (OnBus cmd) (event_replies.Bus reply) next.answer made good next.ended in
-          subst (λ (m : Attempts). MatchesReply bus slot (attempt_arb_reply a m.given)) (sym next.begun)
+          subst (λ (m : AttemptsGiven). MatchesReply bus slot (attempt_arb_reply a m.given)) (sym next.begun)
           (subst (MatchesReply bus slot) (sym (attempt_begins a)) (ends.free bus slot reported_now))
     ]
 
@@ -246,10 +246,10 @@ lawful_datum tries (Ok a) given call reply made good =
     let was = attempts_of a tries given in
     let now = now_made was (Some (event_replies.Board reply)) in
     elim (either now (attempt_next a now.given)) [
-      | inl same ↦ ap (λ (m : Attempts). attempt_arb_reply a m.given) same ∙ attempt_datum a was.given call reply made good
+      | inl same ↦ ap (λ (m : AttemptsGiven). attempt_arb_reply a m.given) same ∙ attempt_datum a was.given call reply made good
       | inr next ↦
           let ends = attempt_ends a was.given call (event_replies.Board reply) next.answer made good next.ended in
-          ap (λ (m : Attempts). attempt_arb_reply a m.given) next.begun ∙ attempt_begins a ∙ sym (ends.quiet reply refl)
+          ap (λ (m : AttemptsGiven). attempt_arb_reply a m.given) next.begun ∙ attempt_begins a ∙ sym (ends.quiet reply refl)
     ]
 
 -- a reply of a board that fits leaves the arbiter's last reply unchanged
@@ -275,13 +275,13 @@ lawful_ends tries (Ok a) given call reply answer made good ends =
     let now = now_made was (Some reply) in
     elim (either now (attempt_next a now.given)) [
       | inl same ↦
-          let last : attempt_next a now.given ≡ Returns answer = sym (ap (λ (m : Attempts). attempt_next a m.given) same) ∙ ends in
+          let last : attempt_next a now.given ≡ Returns answer = sym (ap (λ (m : AttemptsGiven). attempt_next a m.given) same) ∙ ends in
           let well = attempt_ends a was.given call reply answer made good last in
-          subst (λ (m : Attempts). IsWellEnded answer (attempt_arb_reply a m.given)) (sym same) (record { granted = well.granted; free = well.free })
+          subst (λ (m : AttemptsGiven). IsWellEnded answer (attempt_arb_reply a m.given)) (sym same) (record { granted = well.granted; free = well.free })
       | inr next ↦
-          let begun = just_begun a answer (sym (ap (λ (m : Attempts). attempt_next a m.given) next.begun) ∙ ends) in
+          let begun = just_begun a answer (sym (ap (λ (m : AttemptsGiven). attempt_next a m.given) next.begun) ∙ ends) in
           let reported_none : attempt_arb_reply a (next_attempt now (attempt_next a now.given)).given ≡ None
-          = ap (λ (m : Attempts). attempt_arb_reply a m.given) next.begun ∙ attempt_begins a in
+          = ap (λ (m : AttemptsGiven). attempt_arb_reply a m.given) next.begun ∙ attempt_begins a in
           record { granted = begun.granted; free = λ bus slot stands. subst (MatchesReply bus slot) reported_none stands }
     ]
 

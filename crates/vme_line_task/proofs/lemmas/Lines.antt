@@ -19,17 +19,17 @@ use Rattle.vme_line_task.specs.declared.task.LineTask.{LineTask}
 use Rattle.vme_line_task.specs.declared.task.LineTask.TheVariants.{Refused, Running}
 use Rattle.vme_line_task.specs.declared.attempt.Attempts.{Attempts}
 use Rattle.vme_line_task.specs.declared.attempt.AttemptTask.{AttemptTask}
-use Rattle.vme_line_task.specs.declared.attempt.AttemptTask.TheVariants as tries
+use Rattle.vme_line_task.specs.declared.attempt.AttemptTask.TheVariants as tasks
 use Rattle.vme_line_task.specs.Scripts.{Attempt, Transferring, Awaiting, Sharing, line_attempt}
 use Rattle.vme_line_task.specs.Tables as table
-use Rattle.vme_line_task.specs.Tables.{transferring_next, waits_next, shares_next, attempt_next, next_wants_retry, next_attempt, attempts_of, lawful_next, next_given, line_next, given_of}
+use Rattle.vme_line_task.specs.Tables.{transferring_next, awaiting_next, sharing_next, attempt_next, next_wants_retry, next_attempt, attempts_of, lawful_next, next_given, line_next, given_of}
 use Rattle.vme_line_task.specs.Machine.{attempt_fresh, attempt_anew, attempt_advance, attempt_to_do, attempts_again, attempts_advance, line_fresh, line_started, line_advance, line_to_do, line_advanced, line_given, line_after}
 
 -- the task of an attempt after all that it was given
 abbrev attempt_task : Attempt → Inputs → AttemptTask
-attempt_task (Transferring job) given = tries.Transfer (task_given job given)
-attempt_task (Awaiting job want) given = tries.Await (record { task = task_given job given; want = record { items = want } })
-attempt_task (Sharing s) given = tries.Shared (shared_given s given)
+attempt_task (Transferring job) given = tasks.Transfer (task_given job given)
+attempt_task (Awaiting job want) given = tasks.Await (record { task = task_given job given; want = record { items = want } })
+attempt_task (Sharing s) given = tasks.Shared (shared_given s given)
 
 -- the task of an attempt that was given nothing is that before its first call
 task_fresh : (a : Attempt) → attempt_fresh a ≡ attempt_task a []
@@ -46,23 +46,23 @@ task_advance (Sharing s) given last = refl
 
 -- an attempt that is put back has the task before its first call
 task_anew : (a : Attempt) (given : Inputs) → attempt_anew (attempt_task a given) ≡ attempt_task a []
-task_anew (Transferring job) given = ap (λ (one : Job). tries.Transfer (fresh_task one)) (given_job job given)
+task_anew (Transferring job) given = ap (λ (one : Job). tasks.Transfer (fresh_task one)) (given_job job given)
 task_anew (Awaiting job want) given =
-    ap (λ (one : Job). tries.Await (record { task = fresh_task one; want = record { items = want } })) (given_job job given)
-task_anew (Sharing s) given = ap (λ (one : SharedJob). tries.Shared (shared_fresh one)) (shared_given_job s given)
+    ap (λ (one : Job). tasks.Await (record { task = fresh_task one; want = record { items = want } })) (given_job job given)
+task_anew (Sharing s) given = ap (λ (one : SharedJob). tasks.Shared (shared_fresh one)) (shared_given_job s given)
 
 -- an attempt does next what its table says
 task_next : (a : Attempt) (given : Inputs) → attempt_to_do (attempt_task a given) ≡ attempt_next a given
 task_next (Transferring job) given = ap transferring_next (by_the_table job given)
-task_next (Awaiting job want) given = ap (waits_next want) (by_the_table job given)
-task_next (Sharing s) given = ap shares_next (by_the_steps s given)
+task_next (Awaiting job want) given = ap (awaiting_next want) (by_the_table job given)
+task_next (Sharing s) given = ap sharing_next (by_the_steps s given)
 
 -- the attempts of the machine, by those of the table
-abbrev tasks_of : Attempt → table.Attempts → Attempts
+abbrev tasks_of : Attempt → table.AttemptsGiven → Attempts
 tasks_of a made = record { attempt = attempt_task a made.given; left = made.left }
 
 -- the machine begins another attempt exactly if the table does
-same_again : (a : Attempt) (made : table.Attempts) (next : NextStep LineReply) → attempts_again (tasks_of a made) next ≡ tasks_of a (next_attempt made next)
+same_again : (a : Attempt) (made : table.AttemptsGiven) (next : NextStep LineReply) → attempts_again (tasks_of a made) next ≡ tasks_of a (next_attempt made next)
 same_again a made next =
     elim (cases_Bool (next_wants_retry next && nat_lt 1 made.left)) [
       | inl more ↦ rw more (ap (λ (t : AttemptTask). let one : Attempts = record { attempt = t; left = made.left - 1 } in one)
@@ -75,7 +75,7 @@ same_attempts : (a : Attempt) (tries : ℕ) (given : Inputs) (last : Option Even
     → attempts_advance (tasks_of a (attempts_of a tries given)) last ≡ tasks_of a (attempts_of a tries (last ∷ given))
 same_attempts a tries given last =
     let made = attempts_of a tries given in
-    let now : table.Attempts = record { given = last ∷ made.given; left = made.left } in
+    let now : table.AttemptsGiven = record { given = last ∷ made.given; left = made.left } in
     let step : attempt_advance (attempt_task a made.given) last ≡ attempt_task a now.given = task_advance a made.given last in
     ap (λ (t : AttemptTask). attempts_again (record { attempt = t; left = made.left }) (attempt_to_do t)) step
     ∙ ap (attempts_again (tasks_of a now)) (task_next a now.given) ∙ same_again a now (attempt_next a now.given)

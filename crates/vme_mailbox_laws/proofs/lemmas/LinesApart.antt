@@ -14,7 +14,7 @@ use Rattle.vme_core.specs.Calls.{OnBoard}
 use Rattle.vme_shared.specs.MailboxSteps.{touches}
 use Rattle.vme_shared.specs.declared.mailbox.Mailbox.{Mailbox}
 use Rattle.vme_shared.specs.declared.request.SharedRequest.{SharedRequest}
-use Rattle.vme_shared.specs.declared.request.SharedRequest.TheVariants as events
+use Rattle.vme_shared.specs.declared.request.SharedRequest.TheVariants as shared_requests
 use Rattle.vme_shared.specs.Mailboxes.{set_lock, clear_lock}
 use Rattle.vme_mailbox_laws.specs.Along.{mailbox_in}
 use Rattle.vme_grammar.specs.Grammar.{IsOwnLine}
@@ -104,9 +104,9 @@ module _ (config : Configuration) (k who : ℕ) (mailbox : Mailbox) (lawful : Is
   one_line (lines.Unlock am addr) c own may free other calls =
       by_bytes (request_bytes entries (clear_lock am addr)) c free (unlock_sends config who am addr fine.place.board c calls)
   one_line (lines.Put box word) c own may free other calls =
-      by_box box (λ m. events.Put m word) c (λ m. refl) may other calls
+      by_box box (λ m. shared_requests.Put m word) c (λ m. refl) may other calls
   one_line (lines.Take box) c own may free other calls =
-      by_box box (λ m. events.Take m) c (λ m. refl) may other calls
+      by_box box (λ m. shared_requests.Take m) c (λ m. refl) may other calls
 
   -- a line that does not name the mailbox leaves it alone
   leaves : (line : Line) → IsOwnLine line → may_name (Declared (length config.mailboxes)) line ≡ true

@@ -5,14 +5,14 @@ use Rattle.vme_shared.proofs.laws.shared_tasks_keep_their_tenure.Goals as goal
 pub returns-clause-begin : goal.returns-clause-begin
 returns-clause-begin c = begin_reported
 
-pub returns-clause-turns : goal.returns-clause-turns
-returns-clause-turns c = commands_are_allowed
+pub returns-clause-command_allowed : goal.returns-clause-command_allowed
+returns-clause-command_allowed c = commands_are_allowed
 
 pub returns-clause-holds : goal.returns-clause-holds
 returns-clause-holds c = holds_for_data
 
-pub returns-clause-turn : goal.returns-clause-turn
-returns-clause-turn c = turn_reported
+pub returns-clause-slot_state : goal.returns-clause-slot_state
+returns-clause-slot_state c = turn_reported
 
 pub returns-clause-datum : goal.returns-clause-datum
 returns-clause-datum c = datum_reported

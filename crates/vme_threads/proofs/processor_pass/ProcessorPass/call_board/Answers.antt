@@ -3,6 +3,13 @@ use Rattle.vme_threads.proofs.Counts.{count_fits}
 use Rattle.vme_threads.proofs.ProcessorPasses.{made_by_board}
 use Rattle.vme_threads.proofs.processor_pass.ProcessorPass.call_board.Goals as goal
 
+-- a board keeps its kind
+pub unreachable-requires : goal.unreachable-requires
+unreachable-requires g c =
+    let memory = c.requires.fits.boards c.args.board c.requires.there in
+    let kind = c.replies_have_their_kind.ensures.board _ _ _ _ _ _ _ memory.0 memory.1 c.in_ok-reply.ensures.adds in
+    c.in_default.not-Board kind.0 kind.1
+
 -- the count of calls of the board can rise by one
 pub overflow_add-index_mut : goal.overflow_add-index_mut
 overflow_add-index_mut g c =
@@ -14,17 +21,8 @@ overflow_add-index_mut g c =
     omega (arith, less)
 
 -- the pass made the board's entry and counted it
-pub returns-clause-made : goal.returns-clause-made
-returns-clause-made g c =
-    let fits = c.requires.fits in
-    let memory = fits.boards c.args.board c.requires.there in
-    let kind = c.replies_have_their_kind.ensures.board _ _ _ _ _ _ _ memory.0 memory.1 c.in_ok-reply.ensures.adds in
+pub returns : goal.returns
+returns g c =
     made_by_board c.args.ports.now c.args.self.now _ c.args.board c.index_mut.result.now
-    (g.A.Operation.command c.args.cmd.now) c.in_ok-reply.reply
-    fits c.requires.there c.index_mut.ensures.value c.in_ok-reply.ensures.adds kind refl refl refl
-
--- a board keeps its kind
-pub returns-clause-kind : goal.returns-clause-kind
-returns-clause-kind g c =
-    let memory = c.requires.fits.boards c.args.board c.requires.there in
-    c.replies_have_their_kind.ensures.board _ _ _ _ _ _ _ memory.0 memory.1 c.in_ok-reply.ensures.adds
+    (g.A.Operation.command c.args.cmd.now) c.in_ok-reply.field-0 c.in-Board.reply
+    c.requires.fits c.requires.there c.index_mut.ensures.value c.in_ok-reply.ensures.adds c.in-Board.is refl refl refl

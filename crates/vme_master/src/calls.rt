@@ -1,0 +1,142 @@
+//! The calls of a task: on a core, or by a caller.
+ghost use Rattle.std.specs.Prelude.{◌≡◌, ◌<◌, IfSome, IfOk, IfErr};
+ghost use Rattle.vme_core.specs.Advances.{CanMake, AdvancesOn, ends_by_call};
+ghost use Rattle.vme_core.specs.Machines.{process_count};
+ghost use Rattle.vme_core.specs.NextSteps.{call_in};
+ghost use Rattle.vme_master.specs.Callers.{AdvancesBy};
+ghost use Rattle.vme_master.specs.Machine.{advance, to_do};
+
+use crate::caller::Caller;
+use crate::job::Job;
+use crate::phase::Phase;
+use crate::task::Task;
+use vme_arbiter::ArbCmd;
+use vme_core::Core;
+
+impl Task<'_> {
+    /// Performs the next event on `core` for processor `who` and gives the task the reply. Without
+    /// a next event nothing changes. This is `event_ref`, `Core::apply_ref` and `advance` in one,
+    /// and faster, since neither event nor reply is copied in between.
+    #[inline(always)]
+    pub fn advance_on(&mut self, core: &mut Core, who: usize)
+        requires who { who < process_count core.old }
+        requires can { CanMake core.old (call_in (to_do self.old)) }
+        ensures { AdvancesOn to_do advance who core.old core.new self.old self.new }
+    {
+        self.finishes_on(core, who);
+    }
+
+    /// Performs the next event on `core` for processor `who` as `advance_on` does, and returns
+    /// whether the task has ended with this event.
+    #[inline(always)]
+    pub fn finishes_on(&mut self, core: &mut Core, who: usize) -> bool
+        requires who { who < process_count core.old }
+        requires can { CanMake core.old (call_in (to_do self.old)) }
+        ensures step { AdvancesOn to_do advance who core.old core.new self.old self.new }
+        ensures ended { result ≡ ends_by_call to_do self.old self.new }
+    {
+        match (&self.job, self.phase) {
+            (Job::Bus(job), Phase::Requesting) => {
+                let (slot, level) = (job.slot, job.level);
+                let reply = core.apply_bus(who, ArbCmd::Ask { slot, level });
+                self.on_bus_reply(Phase::Requesting, reply);
+                self.is_finished()
+            }
+            (Job::Bus(job), Phase::Polling) => {
+                let reply = core.apply_bus(who, ArbCmd::Look { slot: job.slot });
+                self.on_bus_reply(Phase::Polling, reply);
+                self.is_finished()
+            }
+            (Job::Bus(job), Phase::Releasing { berr }) => {
+                let reply = core.apply_bus(who, ArbCmd::Done { slot: job.slot });
+                self.on_bus_reply(Phase::Releasing { berr }, reply);
+                self.is_finished()
+            }
+            (Job::Bus(job), Phase::Transferring { i }) => {
+                let Some((board, offset)) = job.place else {
+                    return self.finishes_by_parts(core, who);
+                };
+                let reply = core.apply_datum(who, board, &job.datum_at(board, offset, i));
+                self.on_board_reply(Phase::Transferring { i }, &reply);
+                self.is_finished()
+            }
+            (Job::Local(job), Phase::Transferring { i }) => {
+                let reply = core.apply_board(who, job.board, &job.cmd);
+                self.on_board_reply(Phase::Transferring { i }, &reply);
+                self.is_finished()
+            }
+            _ => false,
+        }
+    }
+
+    /// Performs the next event as `finishes_on` does, by `event_ref`, `Core::apply_ref` and `advance`.
+    fn finishes_by_parts(&mut self, core: &mut Core, who: usize) -> bool
+        requires who { who < process_count core.old }
+        requires can { CanMake core.old (call_in (to_do self.old)) }
+        ensures step { AdvancesOn to_do advance who core.old core.new self.old self.new }
+        ensures ended { result ≡ ends_by_call to_do self.old self.new }
+    {
+        let Some(event) = self.event_ref() else {
+            return false;
+        };
+        let reply = core.apply_ref(who, &event);
+        self.advance(Some(&reply));
+        self.is_finished()
+    }
+
+    /// Performs the next event by a call of `caller`, gives the task the reply and returns whether
+    /// the task has ended with this event. Without a next event nothing changes. With one, this is
+    /// `event_ref`, `call_event`, `advance` and `is_finished` in one, and faster.
+    ///
+    /// # Errors
+    ///
+    /// The fault of the call. The task is unchanged.
+    #[inline(always)]
+    pub fn finishes_by<E, C>(&mut self, caller: &mut C, with: &E) -> Result<bool, C::Fault>
+    where
+        C: Caller<E>,
+        requires { IfSome (call_in (to_do self.old)) (C.can with.now caller.old) }
+        ensures step { IfOk result (λ _.
+            AdvancesBy C.made to_do advance caller.old caller.new self.old self.new) }
+        ensures ended { IfOk result (λ ended. ended ≡ ends_by_call to_do self.old self.new) }
+        ensures unchanged { IfErr result (λ _. self.new ≡ self.old) }
+    {
+        match (&self.job, self.phase) {
+            (Job::Bus(job), Phase::Requesting) => {
+                let (slot, level) = (job.slot, job.level);
+                let reply = caller.command_bus(with, &ArbCmd::Ask { slot, level })?;
+                self.on_bus_reply(Phase::Requesting, reply);
+                Ok(self.is_finished())
+            }
+            (Job::Bus(job), Phase::Polling) => {
+                let reply = caller.command_bus(with, &ArbCmd::Look { slot: job.slot })?;
+                self.on_bus_reply(Phase::Polling, reply);
+                Ok(self.is_finished())
+            }
+            (Job::Bus(job), Phase::Releasing { berr }) => {
+                let reply = caller.command_bus(with, &ArbCmd::Done { slot: job.slot })?;
+                self.on_bus_reply(Phase::Releasing { berr }, reply);
+                Ok(self.is_finished())
+            }
+            (Job::Bus(job), Phase::Transferring { i }) => match job.place {
+                Some((board, offset)) => {
+                    let cycle = job.datum_at(board, offset, i);
+                    let reply = caller.transfer_datum(with, board, &cycle)?;
+                    self.on_board_reply(Phase::Transferring { i }, &reply);
+                    Ok(self.is_finished())
+                }
+                None => {
+                    let reply = caller.command_bus(with, &ArbCmd::Done { slot: job.slot })?;
+                    self.on_bus_reply(Phase::Transferring { i }, reply);
+                    Ok(self.is_finished())
+                }
+            },
+            (Job::Local(job), Phase::Transferring { i }) => {
+                let reply = caller.command_board(with, job.board, &job.cmd)?;
+                self.on_board_reply(Phase::Transferring { i }, &reply);
+                Ok(self.is_finished())
+            }
+            _ => Ok(false),
+        }
+    }
+}
