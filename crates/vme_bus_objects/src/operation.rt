@@ -40,6 +40,8 @@ impl Operation<BusObject> for ArbiterOperation<'_> {
 
     ghost command = { λ o. commands.Arbiter o.cmd.now };
 
+    // Not inlined into the call of a port (docs/DECISIONS.md, Attributes for the compiler are measured).
+    #[inline(never)]
     fn perform(&self, object: &mut BusObject) -> EventReply {
         match object {
             BusObject::Board(_) => EventReply::Board(Reply::Berr),

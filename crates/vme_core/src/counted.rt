@@ -49,7 +49,6 @@ impl<O: Object> Counted<O> {
 
     /// Takes a command of `who` and counts it. Where no further step can be counted, nothing is
     /// done.
-    #[inline(always)]
     pub(crate) fn apply(&mut self, who: usize, cmd: &O::Cmd) -> Result<O::Reply, Spent>
         requires who { who < length self.old.made }
         ensures step { IfOk result (λ reply. (self.new, reply) ≡ counted_step O.step self.old who cmd.now) }
@@ -77,7 +76,6 @@ impl<O: Object> Counted<O> {
     }
 
     /// Counts one more step of `who`.
-    #[inline(always)]
     fn count(&mut self, who: usize)
         requires who { who < length self.old.made }
         requires unspent { self.old.steps ≢ 2 ^ 64 - 1 }

@@ -93,7 +93,6 @@ impl Core {
 
     /// Performs one event of `who` that its object can count, given by reference, and returns the
     /// reply.
-    #[inline(always)]
     pub fn apply_ref(&mut self, who: usize, event_ref: &EventRef<'_>) -> EventReply
         requires who { who < process_count self.old }
         requires can { CanCount self.old (target_of_call (call_asked event_ref.now)) }
@@ -124,7 +123,6 @@ impl Core {
 
     /// Performs a command of `who` to the board with index `board`, which can count it, and returns
     /// the reply.
-    #[inline(always)]
     pub fn apply_board(&mut self, who: usize, board: usize, cmd: &BoardCmd) -> Reply
         requires who { who < process_count self.old }
         requires can { CanCount self.old (Target.Board board) }

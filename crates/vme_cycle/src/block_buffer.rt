@@ -66,6 +66,7 @@ impl BlockBuffer {
     }
 
     /// Appends bytes within the capacity. It allocates nothing.
+    #[inline(always)]
     pub fn extend_from_slice(&mut self, bytes: &[u8])
         requires { length self.old.items + length bytes.now ≤ self.old.capacity }
         ensures { self.new ≡ record self.old { items = self.old.items ++ bytes.now } }

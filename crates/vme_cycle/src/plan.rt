@@ -186,7 +186,6 @@ impl<'a> Plan<'a> {
     }
 
     /// The location whose strobes datum `i` shows, by the datum's own location.
-    #[inline(always)]
     fn shown(&self, i: u16, own: Location) -> Location
         requires in_count { i < count_of self.now.request }
         requires own { own ≡ own_location self.now i }

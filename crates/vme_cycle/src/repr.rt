@@ -27,6 +27,7 @@ impl Repr {
     }
 
     /// Appends bytes within the capacity.
+    #[inline(always)]
     pub(crate) fn extend_from_slice(&mut self, more: &[u8])
         requires capacity_fits { HasCapacity self.old }
         requires capacity { length (repr_bytes self.old) + length more.now ≤ repr_capacity self.old }

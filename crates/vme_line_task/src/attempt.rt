@@ -42,7 +42,6 @@ pub enum AttemptTask<'a> {
 impl Attempts<'_> {
     /// Gives the current attempt the reply to its event, or `None` at the first call. If the
     /// attempt ends with a reply that asks for another and another is left, that one begins.
-    #[inline(always)]
     pub(crate) fn advance(&mut self, given: Option<&EventReply>)
         ensures task { self.new ≡ attempts_advance self.old (option_copied given.entry) }
         ensures begun { attempts_to_do self.new ≢ NotStarted }
@@ -53,7 +52,6 @@ impl Attempts<'_> {
 
     /// Begins another attempt, if the current one has ended with a reply that asks for another and
     /// another is left.
-    #[inline(always)]
     fn retry(&mut self)
         ensures task { self.new ≡ attempts_again self.old (attempts_to_do self.old) }
         ensures begun { attempts_to_do self.old ≢ NotStarted → attempts_to_do self.new ≢ NotStarted }
@@ -86,12 +84,11 @@ impl Attempts<'_> {
     ///
     /// # Errors
     /// The fault of the call. The attempts are unchanged.
-    #[inline(always)]
     pub(crate) fn finishes_by<E, C>(&mut self, caller: &mut C, with: &E) -> Result<bool, C::Fault>
     where
         C: Caller<E>,
         requires { IfSome (call_in (attempts_to_do self.old)) (C.can with.now caller.old) }
-        ensures step { IfOk result (λ _. AdvancesBy C.made attempts_to_do attempts_advance caller.old caller.new self.old self.new) }
+        ensures step { IfOk result (λ _. AdvancesBy C.performs attempts_to_do attempts_advance caller.old caller.new self.old self.new) }
         ensures ended { IfOk result (λ ended. ended ≡ ends_by_call attempts_to_do self.old self.new) }
         ensures unchanged { IfErr result (λ _. self.new ≡ self.old) }
     {
@@ -104,7 +101,6 @@ impl Attempts<'_> {
 }
 
 impl AttemptTask<'_> {
-    #[inline(always)]
     fn advance(&mut self, given: Option<&EventReply>)
         ensures task { self.new ≡ attempt_advance self.old (option_copied given.entry) }
         ensures begun { attempt_to_do self.new ≢ NotStarted }
@@ -118,7 +114,6 @@ impl AttemptTask<'_> {
 
     /// Returns the event that comes next as a reference, if there is one, without the signals of a
     /// cycle.
-    #[inline(always)]
     pub(crate) fn event_ref(&self) -> Option<EventRef<'_>>
         ensures { option_map call_asked result ≡ call_in (attempt_to_do self.now) }
     {
@@ -152,7 +147,6 @@ impl AttemptTask<'_> {
     }
 
     /// Returns whether the attempt has ended.
-    #[inline(always)]
     pub(crate) fn is_finished(&self) -> bool
         ensures { result ≡ is_some (result_in (attempt_to_do self.now)) }
     {
@@ -214,7 +208,8 @@ fn shared_finishes_on(
 }
 
 /// Performs the next event of a transfer or a local command by a call of `caller`, as
-/// `Task::finishes_by` does. It has no `inline`, since `vme run` makes no attempts at such lines.
+/// `Task::finishes_by` does. It is a function of its own because that one is always inlined, and
+/// `vme run` drives no transfer or local command as a `LineTask`.
 ///
 /// # Errors
 /// The fault of the call. The task is unchanged.
@@ -224,7 +219,7 @@ fn transfer_finishes_by<E, C: Caller<E>>(
     with: &E,
 ) -> Result<bool, C::Fault>
     requires { IfSome (call_in (to_do task.old)) (C.can with.now caller.old) }
-    ensures step { IfOk result (λ _. AdvancesBy C.made to_do advance caller.old caller.new task.old task.new) }
+    ensures step { IfOk result (λ _. AdvancesBy C.performs to_do advance caller.old caller.new task.old task.new) }
     ensures ended { IfOk result (λ ended. ended ≡ ends_by_call to_do task.old task.new) }
     ensures unchanged { IfErr result (λ _. task.new ≡ task.old) }
 {
@@ -243,7 +238,7 @@ fn shared_finishes_by<E, C: Caller<E>>(
     with: &E,
 ) -> Result<bool, C::Fault>
     requires { IfSome (call_in (shared_to_do task.old)) (C.can with.now caller.old) }
-    ensures step { IfOk result (λ _. AdvancesBy C.made attempts_to_do attempts_advance caller.old caller.new
+    ensures step { IfOk result (λ _. AdvancesBy C.performs attempts_to_do attempts_advance caller.old caller.new
         (shared_attempts task.old left.old) (shared_attempts task.new left.new)) }
     ensures ended { IfOk result (λ ended.
         ended ≡ ends_by_call attempts_to_do (shared_attempts task.old left.old) (shared_attempts task.new left.new)) }
@@ -260,7 +255,6 @@ fn shared_finishes_by<E, C: Caller<E>>(
 
 /// Begins another attempt at a lock or a mailbox, if the current one has ended with a reply that
 /// asks for it and another is left.
-#[inline(always)]
 fn shared_retry(task: &mut SharedTask<'_>, left: &mut u32)
     ensures attempts { shared_attempts task.new left.new ≡
         attempts_again (shared_attempts task.old left.old) (attempts_to_do (shared_attempts task.old left.old)) }

@@ -43,7 +43,6 @@ impl<'a> LineTask<'a> {
     ///
     /// `board` is the board's index in the configuration, and `line` the line's index among those
     /// that request something. A request over the bus reads into `buffer`.
-    #[inline(always)]
     #[tactic(auto, using(crate::proofs::lemmas::Below::started_below))]
     pub fn start(config: &'a Config, board: usize, line: usize, buffer: BlockBuffer) -> LineTask<'a>
         requires board { board < length config.now.boards }
@@ -79,7 +78,6 @@ impl<'a> LineTask<'a> {
 
     /// Gives the line the reply to its event, or `None` at the first call. `event_ref` then returns
     /// the next event, and `reply` the line's reply.
-    #[inline(always)]
     pub fn advance(&mut self, given: Option<&EventReply>)
         ensures task { self.new ≡ line_advance self.old (option_copied given.entry) }
         ensures begun { line_to_do self.new ≢ NotStarted }
@@ -92,7 +90,6 @@ impl<'a> LineTask<'a> {
 
     /// Returns the event that comes next as a reference, without the signals of a cycle; or `None`
     /// before the first call and after the end.
-    #[inline(always)]
     pub fn event_ref(&self) -> Option<EventRef<'_>>
         ensures { option_map call_asked result ≡ call_in (line_to_do self.now) }
     {
@@ -126,12 +123,11 @@ impl<'a> LineTask<'a> {
     ///
     /// # Errors
     /// The fault of the call. The line is unchanged.
-    #[inline(always)]
     pub fn finishes_by<E, C>(&mut self, caller: &mut C, with: &E) -> Result<bool, C::Fault>
     where
         C: Caller<E>,
         requires { IfSome (call_in (line_to_do self.old)) (C.can with.now caller.old) }
-        ensures step { IfOk result (λ _. AdvancesBy C.made line_to_do line_advance caller.old caller.new self.old self.new) }
+        ensures step { IfOk result (λ _. AdvancesBy C.performs line_to_do line_advance caller.old caller.new self.old self.new) }
         ensures below { IfOk result (λ _. (n : ℕ) → IsLineBelow n self.old → IsLineBelow n self.new) }
         ensures ended { IfOk result (λ ended. ended ≡ ends_by_call line_to_do self.old self.new) }
         ensures unchanged { IfErr result (λ _. self.new ≡ self.old) }
@@ -164,7 +160,6 @@ impl<'a> LineTask<'a> {
     }
 
     /// Returns whether the line has ended. It reads less memory than `reply`.
-    #[inline(always)]
     pub fn is_finished(&self) -> bool
         ensures { result ≡ is_some (result_in (line_to_do self.now)) }
     {
@@ -199,7 +194,6 @@ impl<'a> LineTask<'a> {
 
     /// Consumes the line and returns its reply, if it has ended. The bytes that were read are moved,
     /// not copied.
-    #[inline(never)]
     pub fn into_reply(self) -> Option<LineReply>
         ensures { result ≡ result_in (line_to_do self.entry) }
     {
@@ -210,7 +204,6 @@ impl<'a> LineTask<'a> {
     }
 
     /// Returns a line of a board's processor before its first call.
-    #[inline(always)]
     #[tactic(auto, unfolding(crate::specs::Machine::line_started))]
     fn of(config: &'a Config, board: usize, line: &'a Line, buffer: BlockBuffer) -> LineTask<'a>
         requires board { board < length config.now.boards }
@@ -229,9 +222,8 @@ impl<'a> LineTask<'a> {
         }
     }
 
-    /// Returns any line of a board's processor before its first call. It is not inlined, so that
-    /// `of` constructs a task that is attempted once in its final place.
-    #[inline(never)]
+    /// Returns any line of a board's processor before its first call. `of` calls it for all lines
+    /// but transfers and local commands.
     #[tactic(auto, unfolding(crate::specs::Machine::line_started))]
     fn of_any(config: &'a Config, board: usize, line: &'a Line, buffer: BlockBuffer) -> LineTask<'a>
         requires board { board < length config.now.boards }
@@ -251,7 +243,6 @@ impl<'a> LineTask<'a> {
 }
 
 /// Returns the line of a transfer or a local command, which is attempted once, whatever `left` is.
-#[inline(always)]
 fn transfer_line(task: Task<'_>, left: u32) -> LineTask<'_>
     ensures { result ≡ Running (record { attempt = tasks.Transfer task.entry; left = left }) }
 {

@@ -36,7 +36,6 @@ impl<'a> AwaitTask<'a> {
     }
 
     /// Gives the read the reply to its event, or `None` at the first call.
-    #[inline(always)]
     pub(crate) fn advance(&mut self, given: Option<&EventReply>)
         ensures task { self.new ≡ record self.old { task = advance self.old.task (option_copied given.entry) } }
         ensures begun { awaiting_next self.new.want.items (to_do self.new.task) ≢ NotStarted }
@@ -66,7 +65,6 @@ impl<'a> AwaitTask<'a> {
     ///
     /// # Errors
     /// The fault of the call. The read is unchanged.
-    #[inline(always)]
     pub(crate) fn finishes_by<E, C: Caller<E>>(
         &mut self,
         left: &mut u32,
@@ -74,7 +72,7 @@ impl<'a> AwaitTask<'a> {
         with: &E,
     ) -> Result<bool, C::Fault>
         requires { IfSome (call_in (to_do self.old.task)) (C.can with.now caller.old) }
-        ensures step { IfOk result (λ _. AdvancesBy C.made attempts_to_do attempts_advance caller.old caller.new
+        ensures step { IfOk result (λ _. AdvancesBy C.performs attempts_to_do attempts_advance caller.old caller.new
             (read_attempts self.old left.old) (read_attempts self.new left.new)) }
         ensures ended { IfOk result (λ ended.
             ended ≡ ends_by_call attempts_to_do (read_attempts self.old left.old) (read_attempts self.new left.new)) }

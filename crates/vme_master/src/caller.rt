@@ -9,7 +9,7 @@ use vme_core::{DatumCycle, EventRef, EventReply};
 use vme_memory::{BoardCmd, Reply};
 
 /// What makes the calls of a task for one processor, such as the processor's pass on a thread. It
-/// makes each call with a context, `E`. `can` states when it can be asked for a call, and `made`
+/// makes each call with a context, `E`. `can` states when it can be asked for a call, and `performs`
 /// that it made a call and got a reply. No clause states the cause of a fault, nor what the caller
 /// is after one.
 pub trait Caller<E> {
@@ -21,7 +21,7 @@ pub trait Caller<E> {
 
     ghost can: { E → Self → Call → Type 0 };
 
-    ghost made: { Call → EventReply → Self → Self → Type 0 };
+    ghost performs: { Call → EventReply → Self → Self → Type 0 };
 
     /// Performs a command on the arbiter, and returns its reply.
     ///
@@ -30,7 +30,7 @@ pub trait Caller<E> {
     /// The fault of the call.
     fn command_bus(&mut self, with: &E, cmd: &ArbCmd) -> Result<ArbReply, Self::Fault>
         requires { can with.now self.old (OnBus cmd.now) }
-        ensures { IfOk result (λ reply. made (OnBus cmd.now) (replies.Bus reply) self.old self.new) };
+        ensures { IfOk result (λ reply. performs (OnBus cmd.now) (replies.Bus reply) self.old self.new) };
 
     /// Performs a command on the board at index `board`, and returns its reply.
     ///
@@ -45,7 +45,7 @@ pub trait Caller<E> {
     ) -> Result<Reply, Self::Fault>
         requires { can with.now self.old (OnBoard board (command_given cmd.now)) }
         ensures { IfOk result (λ reply.
-            made (OnBoard board (command_given cmd.now)) (replies.Board reply) self.old self.new) };
+            performs (OnBoard board (command_given cmd.now)) (replies.Board reply) self.old self.new) };
 
     /// Moves a datum of a transfer to or from the board at index `board`, and returns its reply.
     ///
@@ -60,7 +60,7 @@ pub trait Caller<E> {
     ) -> Result<Reply, Self::Fault>
         requires { can with.now self.old (OnBoard board (command_given cycle.now)) }
         ensures { IfOk result (λ reply.
-            made (OnBoard board (command_given cycle.now)) (replies.Board reply) self.old self.new) };
+            performs (OnBoard board (command_given cycle.now)) (replies.Board reply) self.old self.new) };
 }
 
 /// Performs an event by one call of `caller`, and returns the reply.
@@ -74,7 +74,7 @@ pub fn call_event<E, C: Caller<E>>(
     event_ref: &EventRef<'_>,
 ) -> Result<EventReply, C::Fault>
     requires { C.can with.now caller.old (call_asked event_ref.now) }
-    ensures { IfOk result (λ reply. C.made (call_asked event_ref.now) reply caller.old caller.new) }
+    ensures { IfOk result (λ reply. C.performs (call_asked event_ref.now) reply caller.old caller.new) }
 {
     match event_ref {
         EventRef::Bus(cmd) => Ok(EventReply::Bus(caller.command_bus(with, cmd)?)),

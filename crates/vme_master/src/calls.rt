@@ -1,6 +1,8 @@
 //! The calls of a task: on a core, or by a caller.
-ghost use Rattle.std.specs.Prelude.{◌≡◌, ◌<◌, IfSome, IfOk, IfErr};
+ghost use Rattle.std.specs.Prelude.{◌≡◌, ◌≢◌, ◌<◌, Some, None, IfSome, IfOk, IfErr};
+ghost use Rattle.vme_arbiter.specs.declared.command.ArbCmd.{ArbCmd as AnyArbCmd};
 ghost use Rattle.vme_core.specs.Advances.{CanMake, AdvancesOn, ends_by_call};
+ghost use Rattle.vme_core.specs.Calls.{OnBus};
 ghost use Rattle.vme_core.specs.Machines.{process_count};
 ghost use Rattle.vme_core.specs.NextSteps.{call_in};
 ghost use Rattle.vme_master.specs.Callers.{AdvancesBy};
@@ -17,7 +19,6 @@ impl Task<'_> {
     /// Performs the next event on `core` for processor `who` and gives the task the reply. Without
     /// a next event nothing changes. This is `event_ref`, `Core::apply_ref` and `advance` in one,
     /// and faster, since neither event nor reply is copied in between.
-    #[inline(always)]
     pub fn advance_on(&mut self, core: &mut Core, who: usize)
         requires who { who < process_count core.old }
         requires can { CanMake core.old (call_in (to_do self.old)) }
@@ -54,7 +55,7 @@ impl Task<'_> {
             }
             (Job::Bus(job), Phase::Transferring { i }) => {
                 let Some((board, offset)) = job.place else {
-                    return self.finishes_by_parts(core, who);
+                    return self.finishes_on_in_parts(core, who);
                 };
                 let reply = core.apply_datum(who, board, &job.datum_at(board, offset, i));
                 self.on_board_reply(Phase::Transferring { i }, &reply);
@@ -70,7 +71,7 @@ impl Task<'_> {
     }
 
     /// Performs the next event as `finishes_on` does, by `event_ref`, `Core::apply_ref` and `advance`.
-    fn finishes_by_parts(&mut self, core: &mut Core, who: usize) -> bool
+    fn finishes_on_in_parts(&mut self, core: &mut Core, who: usize) -> bool
         requires who { who < process_count core.old }
         requires can { CanMake core.old (call_in (to_do self.old)) }
         ensures step { AdvancesOn to_do advance who core.old core.new self.old self.new }
@@ -97,46 +98,66 @@ impl Task<'_> {
         C: Caller<E>,
         requires { IfSome (call_in (to_do self.old)) (C.can with.now caller.old) }
         ensures step { IfOk result (λ _.
-            AdvancesBy C.made to_do advance caller.old caller.new self.old self.new) }
+            AdvancesBy C.performs to_do advance caller.old caller.new self.old self.new) }
+        ensures ended { IfOk result (λ ended. ended ≡ ends_by_call to_do self.old self.new) }
+        ensures unchanged { IfErr result (λ _. self.new ≡ self.old) }
+    {
+        let Some(cmd) = self.bus_command() else {
+            return self.finishes_by_board(caller, with);
+        };
+        let reply = caller.command_bus(with, &cmd)?;
+        self.on_bus_reply(self.phase, reply);
+        Ok(self.is_finished())
+    }
+
+    /// Performs the next event, which is not a command to the arbiter, as `finishes_by` does. Without
+    /// a next event nothing changes.
+    ///
+    /// # Errors
+    ///
+    /// The fault of the call. The task is unchanged.
+    fn finishes_by_board<E, C>(&mut self, caller: &mut C, with: &E) -> Result<bool, C::Fault>
+    where
+        C: Caller<E>,
+        requires other { (cmd : AnyArbCmd) → call_in (to_do self.old) ≢ Some (OnBus cmd) }
+        requires can { IfSome (call_in (to_do self.old)) (C.can with.now caller.old) }
+        ensures step { IfOk result (λ _.
+            AdvancesBy C.performs to_do advance caller.old caller.new self.old self.new) }
         ensures ended { IfOk result (λ ended. ended ≡ ends_by_call to_do self.old self.new) }
         ensures unchanged { IfErr result (λ _. self.new ≡ self.old) }
     {
         match (&self.job, self.phase) {
-            (Job::Bus(job), Phase::Requesting) => {
-                let (slot, level) = (job.slot, job.level);
-                let reply = caller.command_bus(with, &ArbCmd::Ask { slot, level })?;
-                self.on_bus_reply(Phase::Requesting, reply);
+            (Job::Bus(job), Phase::Transferring { i }) => {
+                let (board, offset) = job.place.unwrap();
+                let cycle = job.datum_at(board, offset, i);
+                let reply = caller.transfer_datum(with, board, &cycle)?;
+                self.on_board_reply(Phase::Transferring { i }, &reply);
                 Ok(self.is_finished())
             }
-            (Job::Bus(job), Phase::Polling) => {
-                let reply = caller.command_bus(with, &ArbCmd::Look { slot: job.slot })?;
-                self.on_bus_reply(Phase::Polling, reply);
-                Ok(self.is_finished())
-            }
-            (Job::Bus(job), Phase::Releasing { berr }) => {
-                let reply = caller.command_bus(with, &ArbCmd::Done { slot: job.slot })?;
-                self.on_bus_reply(Phase::Releasing { berr }, reply);
-                Ok(self.is_finished())
-            }
-            (Job::Bus(job), Phase::Transferring { i }) => match job.place {
-                Some((board, offset)) => {
-                    let cycle = job.datum_at(board, offset, i);
-                    let reply = caller.transfer_datum(with, board, &cycle)?;
-                    self.on_board_reply(Phase::Transferring { i }, &reply);
-                    Ok(self.is_finished())
-                }
-                None => {
-                    let reply = caller.command_bus(with, &ArbCmd::Done { slot: job.slot })?;
-                    self.on_bus_reply(Phase::Transferring { i }, reply);
-                    Ok(self.is_finished())
-                }
-            },
             (Job::Local(job), Phase::Transferring { i }) => {
                 let reply = caller.command_board(with, job.board, &job.cmd)?;
                 self.on_board_reply(Phase::Transferring { i }, &reply);
                 Ok(self.is_finished())
             }
             _ => Ok(false),
+        }
+    }
+
+    /// Returns the command to the arbiter that comes next, if the next event is one.
+    fn bus_command(&self) -> Option<ArbCmd>
+        ensures next { IfSome result (λ cmd. call_in (to_do self.now) ≡ Some (OnBus cmd)) }
+        ensures other { result ≡ None → (cmd : AnyArbCmd) → call_in (to_do self.now) ≢ Some (OnBus cmd) }
+    {
+        let Job::Bus(job) = &self.job else {
+            return None;
+        };
+        let (slot, level) = (job.slot, job.level);
+        match self.phase {
+            Phase::Requesting => Some(ArbCmd::Ask { slot, level }),
+            Phase::Polling => Some(ArbCmd::Look { slot }),
+            Phase::Releasing { .. } => Some(ArbCmd::Done { slot }),
+            Phase::Transferring { .. } if job.place.is_none() => Some(ArbCmd::Done { slot }),
+            _ => None,
         }
     }
 }

@@ -97,7 +97,6 @@ impl<'a> Task<'a> {
     }
 
     /// Returns the task of a command to the local port of the board with index `board`.
-    #[inline(always)]
     pub fn local(board: usize, cmd: BoardCmd) -> Task<'a>
         ensures { result ≡ fresh_task (local_job board cmd) }
     {
@@ -176,7 +175,6 @@ impl<'a> Task<'a> {
 
     /// Returns the event that comes next as a reference, without the signals of a cycle; or `None`
     /// before the first call and after the end.
-    #[inline(always)]
     pub fn event_ref(&self) -> Option<EventRef<'_>>
         ensures { option_map call_asked result ≡ call_in (to_do self.now) }
     {
@@ -201,7 +199,6 @@ impl<'a> Task<'a> {
     }
 
     /// Returns whether the task has ended. It reads fewer fields than `outcome`.
-    #[inline(always)]
     pub fn is_finished(&self) -> bool
         ensures { result ≡ is_some (result_in (to_do self.now)) }
     {
@@ -221,7 +218,6 @@ impl<'a> Task<'a> {
 
     /// Consumes the task and returns its outcome, if it has ended. The bytes that were read are
     /// moved, not copied.
-    #[inline(never)]
     pub fn into_outcome(self) -> Option<Outcome>
         ensures { result ≡ result_in (to_do self.entry) }
     {
@@ -248,7 +244,6 @@ impl<'a> Task<'a> {
 
     /// Resets the task to its state after the first call. This is `restart` and `advance` in one,
     /// and shorter, since there is no reply to read.
-    #[inline(always)]
     pub fn begin_again(&mut self)
         ensures task { self.new ≡ advance (fresh_task self.old.job) None }
         ensures begun { to_do self.new ≢ NotStarted }
@@ -258,7 +253,6 @@ impl<'a> Task<'a> {
     }
 
     /// Handles the first call, and any later one without a reply.
-    #[inline(always)]
     fn call(&mut self)
         ensures task { self.new ≡ advance self.old None }
         ensures called { IsTrue (is_called self.new.phase) }
@@ -271,7 +265,6 @@ impl<'a> Task<'a> {
     }
 
     /// Handles the arbiter's reply. `phase` is the task's own, which the caller knows.
-    #[inline(always)]
     pub(crate) fn on_bus_reply(&mut self, phase: Phase, reply: ArbReply)
         requires { self.old.phase ≡ phase }
         ensures task { self.new ≡ advance self.old (Some (replies.Bus reply)) }

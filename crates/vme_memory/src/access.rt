@@ -97,7 +97,7 @@ impl ByteMemory {
         ensures reply { result ≡ (step self.now (read_command block at n)).0 }
         ensures memory { self.now ≡ (step self.now (read_command block at n)).1 }
     {
-        // The lengths are literals, so that the compiler computes the shifts.
+        // The lengths are literals: where a call is inlined, the compiler computes the shifts.
         match n {
             1 => self.read_whole(block, at, 1),
             2 if at % 2 == 0 => self.read_whole(block, at, 2),
@@ -107,7 +107,6 @@ impl ByteMemory {
     }
 
     /// A read of any length at any offset.
-    #[inline(never)]
     fn read_other(&self, block: bool, at: u32, n: u8) -> Reply
         ensures reply { result ≡ (step self.now (read_command block at n)).0 }
         ensures memory { self.now ≡ (step self.now (read_command block at n)).1 }
@@ -138,7 +137,6 @@ impl ByteMemory {
     }
 
     /// A write of any length at any offset.
-    #[inline(never)]
     fn write_other(&mut self, block: bool, at: u32, bytes: &[u8]) -> Reply
         ensures reply { result ≡ (step self.old (write_command block at bytes.now)).0 }
         ensures memory { self.new ≡ (step self.old (write_command block at bytes.now)).1 }
@@ -155,7 +153,6 @@ impl ByteMemory {
         }
     }
 
-    #[inline(never)]
     fn modify_datum(&mut self, at: u32, n: u8, f: &Modify) -> Reply
         ensures reply { result ≡ (step self.old (Steps.Modify at n f.now)).0 }
         ensures memory { self.new ≡ (step self.old (Steps.Modify at n f.now)).1 }

@@ -106,7 +106,6 @@ impl ByteMemory {
 
     /// Returns `true` only if sixteen bytes begin at `offset`, a multiple of four, and all are zero.
     /// It is faster than a look at `row`.
-    #[inline(always)]
     pub fn is_blank_row(&self, offset: u32) -> bool
         requires { offset % 4 ≡ 0 }
         ensures { IsTrue result → take 16 (drop offset self.now.bytes) ≡ zeros 16 }
@@ -131,7 +130,6 @@ impl ByteMemory {
     ///
     /// In a block, this is one datum: the slave increments the address and takes A01 from `at`. A
     /// read-modify-write shows its read half, and the reply has the old bytes.
-    #[inline(never)]
     #[tactic(auto, unfolding(crate::specs::Steps::cycle))]
     pub fn cycle(&mut self, signals: &Signals, at: u32, f: Option<&Modify>) -> Reply
         ensures reply { result ≡ (cycle self.old signals.now at (option_map (λ f. f.now) f.entry)).0 }
@@ -252,7 +250,6 @@ impl ByteMemory {
     }
 
     /// Whether the bytes of a location at `at` lie within the board and its class has the cycle.
-    #[inline(always)]
     #[tactic(auto, using(crate::proofs::Places::place_found))]
     fn reaches(&self, location: Location, at: u32) -> bool
         requires { (row_of location).first ≡ at % 4 }
@@ -262,14 +259,12 @@ impl ByteMemory {
         self.fits(at, location.len()) && self.class.answers(location)
     }
 
-    #[inline(always)]
     pub(crate) fn fits(&self, at: u32, len: u8) -> bool
         ensures { result ≡ fits self.now at len }
     {
         u64::from(at) + u64::from(len) <= u64::from(self.storage.len())
     }
 
-    #[inline(always)]
     #[tactic(auto, using(crate::proofs::Places::not_wide))]
     pub(crate) fn read(&self, block: bool, location: Location, at: u32) -> Reply
         requires { (row_of location).first ≡ at % 4 }
@@ -286,7 +281,6 @@ impl ByteMemory {
         Reply::Bytes(self.storage.read(location, at))
     }
 
-    #[inline(always)]
     fn has_block(&self, location: Location, at: u32) -> bool
         ensures { result ≡ (is_block_place at (row_of location).len && self.now.class.blt) }
     {
@@ -305,7 +299,6 @@ impl ByteMemory {
         self.write(block, location, at, driven_word(location, lines))
     }
 
-    #[inline(always)]
     #[tactic(auto, using(crate::proofs::Places::not_wide, crate::proofs::Enables::part_len))]
     pub(crate) fn write(&mut self, block: bool, location: Location, at: u32, word: u32) -> Reply
         requires { (row_of location).first ≡ at % 4 }
@@ -344,7 +337,6 @@ impl ByteMemory {
     }
 
     /// A read of one, two or four bytes at a multiple of their number.
-    #[inline(always)]
     pub(crate) fn read_whole(&self, block: bool, at: u32, n: u8) -> Reply
         requires { is_modify_place at n ≡ true }
         ensures reply { result ≡ (step self.now (read_command block at n)).0 }
@@ -357,7 +349,6 @@ impl ByteMemory {
     }
 
     /// A write of one, two or four bytes at a multiple of their number.
-    #[inline(always)]
     pub(crate) fn write_whole(&mut self, block: bool, at: u32, n: u8, bytes: &[u8]) -> Reply
         requires place { is_modify_place at n ≡ true }
         requires len { length bytes.now ≡ n }
@@ -371,7 +362,6 @@ impl ByteMemory {
         Reply::Done
     }
 
-    #[inline(always)]
     #[tactic(auto, using(crate::proofs::Places::whole_found))]
     fn reaches_whole(&self, block: bool, at: u32, n: u8) -> bool
         requires { is_modify_place at n ≡ true }

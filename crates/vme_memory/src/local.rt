@@ -48,7 +48,6 @@ impl ByteMemory {
         }
     }
 
-    #[inline(never)]
     fn local_read(&self, at: u32, n: u8) -> Reply
         ensures reply { result ≡ (step self.now (Steps.LocalRead at n)).0 }
         ensures memory { self.now ≡ (step self.now (Steps.LocalRead at n)).1 }
@@ -70,7 +69,6 @@ impl ByteMemory {
         Reply::Done
     }
 
-    #[inline(never)]
     fn local_modify(&mut self, at: u32, n: u8, f: &Modify) -> Reply
         ensures reply { result ≡ (step self.old (Steps.LocalModify at n f.now)).0 }
         ensures memory { self.new ≡ (step self.old (Steps.LocalModify at n f.now)).1 }

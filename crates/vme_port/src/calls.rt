@@ -133,10 +133,7 @@ impl<O: Object> Port<O> {
         }
     }
 
-    /// Makes the remaining tries, each after a longer pause, and then parks. It is `cold`, like
-    /// `wake` and `put_unchanged`, so that it stays out of the code of a call that does not wait.
-    #[cold]
-    #[inline(never)]
+    /// Makes the remaining tries, each after a longer pause, and then parks.
     fn call_again<R: Wait, A: Operation<O>>(
         &self,
         rt: &R,

@@ -69,15 +69,11 @@ impl<O: Object> Port<O> {
     }
 
     /// Wakes one waiting call.
-    #[cold]
-    #[inline(never)]
     fn wake(&self) {
         self.table.shared.wake_one(0);
     }
 
     /// Puts the object back unchanged, because its history is full.
-    #[cold]
-    #[inline(never)]
     pub(crate) fn put_unchanged(&self, seat: &mut Seat<Home<O>, SeatView<O::Cmd, O::Reply>>)
         requires port { seat.old.table_id ≡ port_id self.now }
         requires out { MayPut O.step (opening self.now) [] seat.old.me }

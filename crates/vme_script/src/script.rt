@@ -109,7 +109,6 @@ impl Script {
 }
 
 /// Appends a line if it requests something, or returns its refusal.
-#[inline(always)]
 #[tactic(auto, using(crate::proofs::Taking::kept))]
 fn push_line(
     lines: &mut Vec<ScriptLine>,
@@ -126,8 +125,6 @@ fn push_line(
 }
 
 /// Appends a line in any form if it requests something, or returns its refusal.
-#[cold]
-#[inline(never)]
 #[tactic(auto, using(crate::proofs::Taking::kept, crate::proofs::Taking::passed_over, crate::proofs::Asked::refused))]
 fn take_any(
     lines: &mut Vec<ScriptLine>,

@@ -168,7 +168,6 @@ impl<'a> Processor<'a> {
     }
 
     /// Records the replies of lines that need no event, up to a line that needs one.
-    #[inline(never)]
     fn seek(&mut self, config: &'a Config, board: usize)
         requires board { board < length config.now.boards }
         requires processor { IsProcessorOf config.now board self.old }
@@ -237,9 +236,7 @@ fn perform(task: &mut LineTask<'_>, core: &mut Core, board: usize) -> EventReply
     reply
 }
 
-/// Records the reply of the current line, which has ended, and drops its task. Out of line, to keep
-/// the stack frame of a turn small.
-#[inline(never)]
+/// Records the reply of the current line, which has ended, and drops its task.
 fn end_line(lines: &mut [(u16, LineReply)], place: usize, at_work: &mut Option<LineTask<'_>>)
     requires place { place < length lines.old }
     requires over { (task : AnyTask) → at_work.old ≡ Some task → is_some (result_in (line_to_do task)) ≡ true }
@@ -255,7 +252,6 @@ fn end_line(lines: &mut [(u16, LineReply)], place: usize, at_work: &mut Option<L
 }
 
 /// Records the reply of the line with index `place`.
-#[inline(never)]
 fn put_answer(lines: &mut [(u16, LineReply)], place: usize, answer: LineReply)
     requires { place < length lines.old }
     ensures { lines.new

@@ -45,7 +45,6 @@ impl ProcessorPass {
     ///
     /// # Errors
     /// `Spent` if the arbiter has made 2^64 - 1 steps.
-    #[inline(always)]
     pub(crate) fn call_bus<R: Wait>(
         &mut self,
         rt: &R,
@@ -81,7 +80,6 @@ impl ProcessorPass {
     ///
     /// # Errors
     /// `Spent` if the board has made 2^64 - 1 steps.
-    #[inline(always)]
     pub(crate) fn call_board<R: Wait, A: Operation<ByteMemory>>(
         &mut self,
         rt: &R,
@@ -153,9 +151,8 @@ impl ProcessorPass {
 
     /// Pauses before a further attempt, so that other processors get the bus, if there are any.
     /// `before` and `left` are the numbers of attempts that were left before and after an event.
-    #[inline(always)]
     fn pause(&self, backoff: &Backoff, before: u32, left: u32) {
-        if left < before && self.boards > 1 {
+        if self.boards > 1 && left < before {
             backoff.snooze();
         }
     }
@@ -176,9 +173,8 @@ impl<R: Wait> Caller<CallContext<'_, R>> for ProcessorPass {
 
     ghost can = { λ with pass call. MatchesPorts with.ports.now pass × IsCallBelow pass.boards call };
 
-    ghost made = { AddsCall };
+    ghost performs = { AddsCall };
 
-    #[inline(always)]
     fn command_bus(&mut self, with: &CallContext<'_, R>, cmd: &ArbCmd) -> Result<ArbReply, Spent> {
         self.call_bus(with.rt, with.ports, cmd)
     }
@@ -192,7 +188,6 @@ impl<R: Wait> Caller<CallContext<'_, R>> for ProcessorPass {
         self.call_board(with.rt, with.ports, board, &CommandRef { cmd })
     }
 
-    #[inline(always)]
     fn transfer_datum(
         &mut self,
         with: &CallContext<'_, R>,

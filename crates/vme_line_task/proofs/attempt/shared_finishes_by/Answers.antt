@@ -15,11 +15,11 @@ use Rattle.vme_line_task.proofs.attempt.shared_finishes_by.Goals as goal
 pub returns-clause-step : goal.returns-clause-step
 returns-clause-step g c =
     let old = shared_attempts c.args.task.now c.args.left.now in
-    shared_called g.C.Caller.made c.args.caller.now c.call_event.new.caller c.args.task.now c.advance.new.self c.shared_retry.new.task
+    shared_called g.C.Caller.performs c.args.caller.now c.call_event.new.caller c.args.task.now c.advance.new.self c.shared_retry.new.task
     c.args.left.now c.shared_retry.new.left
     (calls_going (attempts_to_do old)
     (ap is_some (map_call answers.Shared (shared_to_do c.args.task.now)) ∙ ap is_some (sym (rw c.in-Some.is at c.event_ref.ensures))))
-    (event_called g.C.Caller.made shared_to_do shared_advance c.args.caller.now c.call_event.new.caller c.args.task.now c.advance.new.self
+    (event_called g.C.Caller.performs shared_to_do shared_advance c.args.caller.now c.call_event.new.caller c.args.task.now c.advance.new.self
     (call_asked c.in-Some.event) c.in_ok-reply.reply (rw c.in-Some.is at c.event_ref.ensures) c.in_ok-reply.ensures
     c.advance.ensures.task c.advance.ensures.begun)
     c.shared_retry.ensures.attempts c.shared_retry.ensures.begun
