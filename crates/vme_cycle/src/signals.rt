@@ -170,7 +170,7 @@ impl Signals {
     }
 
     /// Puts the bytes of a slave's reply to a read on the lanes that the code and the strobes select.
-    // Inlined, because a printed datum changes only the two words of its lanes.
+    // In place, because a printed datum changes only the two words of its lanes.
     pub fn answer(&mut self, bytes: &[u8])
         requires { row_len self.old.am.wide self.old.strobes ≡ Some (length bytes.now) }
         ensures { self.new ≡ answered_lines self.old bytes.now }

@@ -36,6 +36,7 @@ impl Task<'_> {
         ensures step { AdvancesOn to_do advance who core.old core.new self.old self.new }
         ensures ended { result ≡ ends_by_call to_do self.old self.new }
     {
+        // For speed the commands are spelled out here, as `BusJob::bus_command` has them.
         match (&self.job, self.phase) {
             (Job::Bus(job), Phase::Requesting) => {
                 let (slot, level) = (job.slot, job.level);
@@ -148,16 +149,9 @@ impl Task<'_> {
         ensures next { IfSome result (λ cmd. call_in (to_do self.now) ≡ Some (OnBus cmd)) }
         ensures other { result ≡ None → (cmd : AnyArbCmd) → call_in (to_do self.now) ≢ Some (OnBus cmd) }
     {
-        let Job::Bus(job) = &self.job else {
-            return None;
-        };
-        let (slot, level) = (job.slot, job.level);
-        match self.phase {
-            Phase::Requesting => Some(ArbCmd::Ask { slot, level }),
-            Phase::Polling => Some(ArbCmd::Look { slot }),
-            Phase::Releasing { .. } => Some(ArbCmd::Done { slot }),
-            Phase::Transferring { .. } if job.place.is_none() => Some(ArbCmd::Done { slot }),
-            _ => None,
+        match &self.job {
+            Job::Bus(job) => job.bus_command(self.phase),
+            Job::Local(_) => None,
         }
     }
 }

@@ -1,8 +1,9 @@
-ghost use Rattle.std.specs.Prelude.{◌≡◌, ◌<◌, ◌≤◌, ℕ, List, length, Some, option_map, is_some};
+ghost use Rattle.std.specs.Prelude.{◌≡◌, ◌≢◌, ◌<◌, ◌≤◌, ℕ, List, length, Some, None, IfSome, option_map, is_some};
 ghost use Rattle.vme_cycle.specs.BlockBuffers.{block_limit};
 ghost use Rattle.vme_cycle.specs.Requests.{count_of};
 ghost use Rattle.vme_memory.specs.Locals.{command_given};
-ghost use Rattle.vme_core.specs.Calls.{OnBoard};
+ghost use Rattle.vme_arbiter.specs.declared.command.ArbCmd.{ArbCmd as AnyArbCmd};
+ghost use Rattle.vme_core.specs.Calls.{OnBoard, OnBus};
 ghost use Rattle.vme_core.specs.EventRefs.{call_asked};
 ghost use Rattle.vme_core.specs.NextSteps.{call_in, result_in};
 ghost use Rattle.vme_master.specs.CurrentData.{bus_datum, job_datum};
@@ -31,22 +32,6 @@ pub struct BusJob<'a> {
 }
 
 impl BusJob<'_> {
-    /// The event of datum `i`: a cycle of the selected board, or the release of the bus if no board
-    /// is selected.
-    fn datum(&self, i: u16) -> EventRef<'_>
-        requires in_count { i < count_of self.now.transfer.request }
-        requires placed { IsPlaced (Job.Bus self.now) }
-        ensures { call_asked result ≡ datum_call self.now self.now.place i }
-    {
-        match self.place {
-            Some((board, offset)) => {
-                let cycle = self.datum_at(board, offset, i);
-                EventRef::Datum { board, cycle }
-            }
-            None => EventRef::Bus(ArbCmd::Done { slot: self.slot }),
-        }
-    }
-
     /// The cycle of datum `i`, by the board and the offset of the first datum.
     pub(crate) fn datum_at(&self, board: usize, offset: u32, i: u16) -> DatumCycle<'_>
         requires in_count { i < count_of self.now.transfer.request }
@@ -60,19 +45,36 @@ impl BusJob<'_> {
         DatumCycle::new(plan, i, at)
     }
 
+    /// The command to the arbiter in a phase, if the event is one. If no board is selected, the event
+    /// at a datum is the release of the bus.
+    pub(crate) fn bus_command(&self, phase: Phase) -> Option<ArbCmd>
+        ensures next { IfSome result (λ cmd. (read : List ℕ) →
+            call_in (bus_next self.now phase read) ≡ Some (OnBus cmd)) }
+        ensures other { result ≡ None → (cmd : AnyArbCmd) (read : List ℕ) →
+            call_in (bus_next self.now phase read) ≢ Some (OnBus cmd) }
+    {
+        let (slot, level) = (self.slot, self.level);
+        match phase {
+            Phase::Requesting => Some(ArbCmd::Ask { slot, level }),
+            Phase::Polling => Some(ArbCmd::Look { slot }),
+            Phase::Releasing { .. } => Some(ArbCmd::Done { slot }),
+            Phase::Transferring { .. } if self.place.is_none() => Some(ArbCmd::Done { slot }),
+            _ => None,
+        }
+    }
+
     /// The event in a phase, if there is one, without the signals of a cycle.
     fn event_ref(&self, phase: Phase) -> Option<EventRef<'_>>
         requires in_count { (i : ℕ) → phase ≡ Transferring i → i < count_of self.now.transfer.request }
         requires placed { IsPlaced (Job.Bus self.now) }
         ensures { (read : List ℕ) → option_map call_asked result ≡ call_in (bus_next self.now phase read) }
     {
-        let (slot, level) = (self.slot, self.level);
-        match phase {
-            Phase::Requesting => Some(EventRef::Bus(ArbCmd::Ask { slot, level })),
-            Phase::Polling => Some(EventRef::Bus(ArbCmd::Look { slot })),
-            Phase::Transferring { i } => Some(self.datum(i)),
-            Phase::Releasing { .. } => Some(EventRef::Bus(ArbCmd::Done { slot })),
-            Phase::New | Phase::Finished { .. } | Phase::Denied => None,
+        match (phase, self.place) {
+            (Phase::Transferring { i }, Some((board, offset))) => {
+                let cycle = self.datum_at(board, offset, i);
+                Some(EventRef::Datum { board, cycle })
+            }
+            _ => Some(EventRef::Bus(self.bus_command(phase)?)),
         }
     }
 

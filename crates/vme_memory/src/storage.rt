@@ -197,7 +197,7 @@ impl Storage {
         requires short { length new.now ≤ 4 }
         ensures { self.new ≡ bytes_after_write self.old at new.now }
     {
-        // The lengths are literals, so that the compiler computes the masks.
+        // Where a length is a literal, the compiler computes the mask.
         match new {
             [a] => self.put(at, 1, word_of([*a, 0, 0, 0])),
             [a, b] if at % 4 <= 2 => self.put(at, 2, word_of([*a, *b, 0, 0])),

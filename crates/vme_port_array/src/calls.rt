@@ -146,11 +146,6 @@ impl<O: Object> PortArray<O> {
     ///
     /// # Errors
     /// `Spent` if the object's part of the history has 2^64 - 1 entries. No entry is added.
-    ///
-    /// It is `cold`, like `wake` and `put_unchanged`, so that it stays out of the code of a call
-    /// that does not wait.
-    #[cold]
-    #[inline(never)]
     fn call_again<R: Wait, A: Operation<O>>(
         &self,
         rt: &R,
