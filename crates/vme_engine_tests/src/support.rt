@@ -6,8 +6,9 @@ use std::alloc::{AllocError, Global};
 use std::process::Abort;
 use std::sync::Wait;
 use std::thread::Threads;
-use vme_engines::{ProgramFault, Status, cycles_engine, run_engine, step_engine};
+use vme_engines::{ProgramFault, Status, cycles_engine};
 use vme_io::{RoomSink, Sink, SliceSource, Source};
+use vme_run::{run_engine, step_engine};
 
 /// An engine of the program.
 #[derive(Clone, Copy, Debug)]

@@ -1,4 +1,4 @@
-//! Each use of `vme_uses`, run once, except those of `vme_port_array`, `vme_sequential` and
+//! Each use of `vme_uses`, run once, except those of `vme_port_array`, `vme_run` and
 //! `vme_outcomes`.
 ghost use Rattle.std.specs.Prelude.{◌==◌, true, false, if◌then◌else◌};
 
@@ -15,9 +15,10 @@ use vme_io::RoomSink;
 use vme_memory::{BoardCmd, Reply};
 use vme_object::{Counter, Object};
 use vme_port::Port;
+use vme_report::BoardReportRef;
 use vme_runner::{Gate, Status};
 use vme_script::{Config, Line};
-use vme_shared::SharedTodo;
+use vme_shared::{LineReply, SharedTodo};
 use vme_uses::{
     am, arbiter, bus_objects, bus_wait, config_toml, cores, cycle, decode, devices, engines,
     explore, grammar, lanes, lexer, line_task, mailbox_laws, master, memory, object, port, report,
@@ -134,11 +135,7 @@ fn texts_and_lines(rt: HostRuntime) -> Result<(), Fail> {
     let mut text = Vec::new(rt.alloc());
     assert!(&rt; grammar::is_request(b"take 1", &mut text)?);
     assert!(&rt; !grammar::is_request(b"give 1", &mut text)?);
-    report::two_replies(&mut text)?;
-    assert_eq!(&rt;
-        text.as_slice(),
-        b"line refused S2\n2:1 met\n2:2 timeout\n".as_slice()
-    );
+    assert_eq!(&rt; text.as_slice(), b"line refused S2\n".as_slice());
     let mut sink = RoomSink::new(rt.alloc(), 3, 16)?;
     assert!(&rt; devices::write_done(&mut sink).is_ok());
     assert_eq!(&rt; sink.bytes(), b"done\n".as_slice());
@@ -176,6 +173,35 @@ fn files_and_their_runs(rt: HostRuntime) -> Result<(), Fail> {
     let waiters = BusWaiters::new(alloc, 1)?;
     let mut state = WaitState::new();
     bus_wait::poll(&rt, &waiters, &mut state, &mut Arbiter::new());
+    Ok(())
+}
+
+#[test]
+fn the_report_of_one_board(rt: HostRuntime) -> Result<(), Fail> {
+    let alloc = rt.alloc();
+    let config = Config::read(alloc, FILE.as_bytes())?;
+    if config.boards() == 0 {
+        panic!(&rt; "no board")
+    }
+    let Ok(memory) = config.memory(alloc, 0) else {
+        panic!(&rt; "no memory")
+    };
+    let board = BoardReportRef {
+        slot: 2,
+        lines: &[(1, LineReply::Met)],
+        memory: &memory,
+        steps: 1,
+        made: &[1],
+    };
+    let mut printed = RoomSink::new(alloc, usize::MAX, 64)?;
+    assert_eq!(&rt;
+        report::report_of_one(alloc, board, &mut printed),
+        Ok(Status::Clean)
+    );
+    assert_eq!(&rt;
+        printed.bytes(),
+        b"2:1 met\nboard 2 steps 1 made 1\n".as_slice()
+    );
     Ok(())
 }
 

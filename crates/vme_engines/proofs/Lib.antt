@@ -1,5 +1,4 @@
 pub mod lemmas
-pub mod Runs
 pub mod Texts
 pub mod Data
 pub mod InputFaults

@@ -1,6 +1,7 @@
 -- How a run of an engine ends, and the exit status of the program.
-use Rattle.std.specs.Prelude.{◌≡◌, ℕ, ◌+◌, ◌<◌, ◌≤◌, Bool, true, false, List, length, Option, IfSome, Result, Ok, Err}
+use Rattle.std.specs.Prelude.{◌≡◌, ◌⊎◌, ℕ, ◌+◌, ◌<◌, ◌≤◌, Bool, true, false, List, [], length, Option, IfSome, Result, Ok, Err}
 use Rattle.std.specs.Io.KnownBytes.{Consumes}
+use Rattle.vme_io.specs.Prefixes.{AppendsPrefix}
 use Rattle.vme_report.specs.declared.fault.RunFault.{RunFault}
 use Rattle.vme_report.specs.declared.fault.RunFault.TheVariants as run
 use Rattle.vme_script.specs.declared.fault.ConfigFault.TheVariants.{OutOfMemory}
@@ -39,12 +40,6 @@ abbrev pub IsStepFault : ProgramFault → Type 0
 IsStepFault Write = Unit {0}
 IsStepFault fault = IsFileFault fault
 
--- the faults of reading a file, running its scripts on threads and writing the report
-abbrev pub IsRunEngineFault : ProgramFault → Type 0
-IsRunEngineFault Thread = Unit {0}
-IsRunEngineFault Spent = Unit {0}
-IsRunEngineFault fault = IsStepFault fault
-
 -- whether a fault is a failure of the reader
 abbrev pub is_read : ProgramFault → Bool
 is_read Read = true
@@ -73,6 +68,10 @@ EndsUnwritten (Err Thread) = Unit {0}
 EndsUnwritten (Err Spent) = Unit {0}
 EndsUnwritten (Err (Config fault)) = Unit {0}
 EndsUnwritten end = ⊥
+
+-- nothing was written, or a prefix of a text of this kind
+abbrev pub WritesPrefix : (List ℕ → Type 0) → Option (List ℕ) → Option (List ℕ) → Type 0
+WritesPrefix IsText old new = AppendsPrefix old new [] ⊎ ((text : List ℕ) × IsText text × AppendsPrefix old new text)
 
 -- the bytes that were read are exactly one more than the limit
 abbrev pub ReadsPastLimit : ℕ → Option (List ℕ) → Option (List ℕ) → Type 0

@@ -1,4 +1,3 @@
-pub mod RunTexts
 pub mod Lines
 pub mod Answers
 pub mod Cycles

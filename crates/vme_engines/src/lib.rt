@@ -1,8 +1,7 @@
-//! The engines of the program: `vme cycles` performs the cycles of request lines, `vme step` runs
-//! the scripts of a configuration on one thread, and `vme run` runs them on threads. [`read_words`]
-//! reads the command line.
+//! The engine of `vme cycles`, which performs the cycles of request lines; what most engines share:
+//! their faults, and how they read their input; and [`read_words`], which reads the command line.
 //!
-//! Each engine reads a source of bytes, writes to a sink, and returns a status or a fault.
+//! An engine reads a source of bytes, writes to a sink, and returns a status or a fault.
 #![tactic(auto)]
 
 mod answer;
@@ -12,17 +11,11 @@ mod fault;
 mod file;
 mod input;
 mod request;
-mod run;
-mod step;
-mod text;
 mod words;
 
 pub use cycles::{INPUT_LIMIT, cycles_engine};
 pub use fault::{ProgramFault, exit_status};
 pub use file::{FILE_LIMIT, read_config};
 pub use input::read_input;
-pub use run::run_engine;
-pub use step::step_engine;
-pub use text::report_text;
 pub use vme_shared::Status;
 pub use words::{Form, WordsFault, read_words};

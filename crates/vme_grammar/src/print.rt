@@ -1,6 +1,7 @@
-//! The texts of signals, outcomes and refusals, appended to a buffer. Each public function appends
-//! its whole text, or leaves the buffer's text unchanged if an allocation fails.
+//! The texts of signals, outcomes, refusals and numbers, appended to a buffer. Each public function
+//! appends its whole text, or leaves the buffer's text unchanged if an allocation fails.
 ghost use Rattle.std.specs.Prelude.{◌≡◌, ◌+◌, ◌*◌, ◌<◌, ◌≤◌, ◌++◌, length, true, false, vec_len, vec_capacity, OnOk, OnErr, codes};
+ghost use Rattle.std.specs.Fmt.{decimal};
 ghost use Rattle.std.specs.Int.{w32, to_be_bytes};
 ghost use Rattle.vme_lanes.specs.Rows.{row_of};
 ghost use Rattle.vme_grammar.specs.Texts.{hex_byte, hex_text, level_text, lane_text, lanes_text, printed_lanes, address_text, strobes_text, signals_text, Read, Done, Old, Berr, more_bytes, outcome_text, cycle_fault_text, line_fault_text, output_line};
@@ -77,6 +78,19 @@ pub fn print_hex(text: &mut Vec<u8>, bytes: &[u8]) -> Result<(), AllocError>
     reserve_hex(text, 0, bytes)?;
     push_hex_bytes(text, bytes);
     Ok(())
+}
+
+/// Appends a number in decimal.
+///
+/// # Errors
+///
+/// `AllocError`: an allocation failed; the text is unchanged.
+pub fn print_number(text: &mut Vec<u8>, number: u64) -> Result<(), AllocError>
+    ensures text { OnOk result (text.new.items ≡ text.old.items ++ decimal number) }
+    ensures kept { OnErr result (text.new.items ≡ text.old.items) }
+{
+    let mut buffer = itoa::Buffer::new();
+    text.extend_from_slice(buffer.format(number).as_bytes())
 }
 
 /// Returns the two hexadecimal digits of a byte.

@@ -5,7 +5,8 @@ use Rattle.std.specs.List.{flat_map, range_with_len}
 use Rattle.std.proofs.lemmas.List.{append-nil, drop_more, drop_all, length-map}
 use Rattle.std.proofs.lemmas.Option.{slice_get_within, slice_get_cases, get_or_from_slice_get, slice_get-map, same_Some}
 use Rattle.vme_memory.specs.Boards.{Board}
-use Rattle.vme_report.specs.Texts.{line_text, replies_text, row, row_text, row_count, memory_text}
+use Rattle.vme_report.specs.Texts.{replies_text, row, row_text, row_count, memory_text}
+use Rattle.vme_script.specs.ReplyTexts.{line_text}
 use Rattle.vme_script.specs.declared.script.ScriptLine.{ScriptLine}
 use Rattle.vme_shared.specs.declared.reply.LineReply.{LineReply}
 use Rattle.vme_shared.specs.declared.reply.LineReply.TheVariants.{Unfinished}

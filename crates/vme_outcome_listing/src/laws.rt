@@ -6,7 +6,7 @@ ghost use Rattle.vme_report.specs.Reports.{report_text};
 ghost use Rattle.vme_threads.specs.declared.report.Report.{Report};
 ghost use Rattle.vme_threads.specs.OneOrder.{IsReportOfOneOrder};
 ghost use Rattle.vme_threads.specs.ReportTexts.{texts_of_report};
-ghost use Rattle.vme_engines.specs.RunTexts.{IsRunText};
+ghost use Rattle.vme_run.specs.RunTexts.{IsRunText};
 ghost use Rattle.vme_outcomes.specs.Outcomes.{outcome_of_report};
 ghost use Rattle.vme_outcome_listing.specs.Texts.{outcome_text};
 ghost use Rattle.vme_outcome_listing.specs.ListedTexts.{texts_in};

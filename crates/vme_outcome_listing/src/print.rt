@@ -1,20 +1,12 @@
 //! Schedules, paragraphs and the summary, appended to a buffer.
 ghost use Rattle.std.specs.Prelude.{◌≡◌, ◌++◌, codes, OnOk};
-ghost use Rattle.std.specs.Fmt.{decimal};
 ghost use Rattle.vme_outcome_listing.specs.ListedTexts.{shown};
 ghost use Rattle.vme_outcome_listing.specs.Schedules.{pair_text, pairs_text, schedule_text};
 ghost use Rattle.vme_outcome_listing.specs.Outputs.{paragraph_text, number_text, summary_text};
 
 use crate::paragraph::Paragraph;
 use std::alloc::AllocError;
-
-/// Appends a number in decimal digits.
-pub(crate) fn append_number(number: u64, text: &mut Vec<u8>) -> Result<(), AllocError>
-    ensures { OnOk result (text.new.items ≡ text.old.items ++ decimal number) }
-{
-    let mut buffer = itoa::Buffer::new();
-    text.extend_from_slice(buffer.format(number).as_bytes())
-}
+use vme_grammar::print_number;
 
 /// Appends a paragraph: the line of the schedule, the text and an empty line.
 #[tactic(auto, unfolding(crate::specs::Outputs::paragraph_text))]
@@ -57,9 +49,9 @@ fn append_pair(pair: &(u16, u32), text: &mut Vec<u8>) -> Result<(), AllocError>
     ensures { OnOk result (text.new.items ≡ text.old.items ++ pair_text pair.now) }
 {
     text.extend_from_slice(b"[")?;
-    append_number(u64::from(pair.0), text)?;
+    print_number(text, u64::from(pair.0))?;
     text.extend_from_slice(b", ")?;
-    append_number(u64::from(pair.1), text)?;
+    print_number(text, u64::from(pair.1))?;
     text.extend_from_slice(b"]")
 }
 
@@ -82,7 +74,7 @@ pub(crate) fn append_summary(
 fn append_count(number: usize, thing: &[u8], text: &mut Vec<u8>) -> Result<(), AllocError>
     ensures { OnOk result (text.new.items ≡ text.old.items ++ number_text number thing.now) }
 {
-    append_number(number as u64, text)?;
+    print_number(text, number as u64)?;
     text.extend_from_slice(b" ")?;
     text.extend_from_slice(thing)?;
     if number != 1 {

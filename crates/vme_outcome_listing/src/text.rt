@@ -1,18 +1,17 @@
 //! The text of an outcome, appended to a buffer.
 ghost use Rattle.std.specs.Prelude.{◌≡◌, ◌<◌, ◌++◌, length, OnOk, Some, option_copied, slice_get, unwrap_or};
-ghost use Rattle.vme_report.specs.Texts.{line_text, replies_text, is_blank, row_text, memory_text};
+ghost use Rattle.vme_report.specs.Texts.{replies_text, is_blank, row_text, memory_text};
+ghost use Rattle.vme_script.specs.ReplyTexts.{line_text};
 ghost use Rattle.vme_shared.specs.declared.reply.LineReply.TheVariants.{Unfinished};
 ghost use Rattle.vme_line_task.specs.Traces.{ScriptState};
 ghost use Rattle.vme_stepper.specs.Reports.{numbered_replies};
 ghost use Rattle.vme_outcomes.specs.BareStates.{bare_outcome};
 ghost use Rattle.vme_outcome_listing.specs.Texts.{slots_of, scripts_text, memories_text, outcome_text};
 
-use crate::print::append_number;
 use std::alloc::AllocError;
-use vme_grammar::print_hex;
+use vme_grammar::{print_hex, print_number};
 use vme_memory::ByteMemory;
-use vme_report::reply_line;
-use vme_script::{Config, Script};
+use vme_script::{Config, Script, reply_line};
 use vme_shared::LineReply;
 use vme_states::State;
 
@@ -122,7 +121,7 @@ fn append_row(slot: u16, offset: u32, row: &[u8], text: &mut Vec<u8>) -> Result<
     }
     let start = offset.to_be_bytes();
     text.extend_from_slice(b"mem ")?;
-    append_number(u64::from(slot), text)?;
+    print_number(text, u64::from(slot))?;
     text.extend_from_slice(b" ")?;
     print_hex(text, &start)?;
     text.extend_from_slice(b" ")?;

@@ -4,7 +4,8 @@ use Rattle.std.proofs.lemmas.List.{drop_more}
 use Rattle.std.specs.List.{flat_map, range_with_len}
 use Rattle.vme_shared.specs.declared.reply.LineReply.{LineReply}
 use Rattle.vme_memory.specs.Boards.{zeros}
-use Rattle.vme_report.specs.Texts.{line_text, replies_text, row, row_text, row_count}
+use Rattle.vme_script.specs.ReplyTexts.{line_text}
+use Rattle.vme_report.specs.Texts.{replies_text, row, row_text, row_count}
 
 -- the text of the items from item i on begins with the text of item i
 pub item_first :

@@ -1,17 +1,19 @@
 //! The parts of a report, line by line: the text is gathered and written to a sink in large pieces.
 ghost use Rattle.std.specs.Prelude.{◌≡◌, ◌≤◌, ◌*◌, ◌%◌, ◌++◌, [], false, length, take, drop, flat_map, OnOk, OnErr, IfErr};
 ghost use Rattle.vme_io.specs.Prefixes.{GathersOrStops};
+ghost use Rattle.vme_script.specs.ReplyTexts.{line_text};
 ghost use Rattle.vme_report.specs.Ends.{IsReportFault, is_write_end};
 ghost use Rattle.vme_report.specs.Boards.{BoardText};
-ghost use Rattle.vme_report.specs.Texts.{line_text, counts_text, row_text, row, replies_text, memory_text};
+ghost use Rattle.vme_report.specs.Texts.{counts_text, row_text, row, replies_text, memory_text};
 ghost use Rattle.vme_report.specs.Reports.{part_text};
 
 use crate::board::BoardReportRef;
 use crate::fault::RunFault;
 use crate::part::Part;
-use crate::print::{print_counts, print_row, reply_line};
+use crate::print::{print_counts, print_row};
 use vme_io::{Sink, flush_if_full};
 use vme_memory::ByteMemory;
+use vme_script::reply_line;
 use vme_shared::LineReply;
 
 /// The number of bytes in a row of memory.

@@ -14,5 +14,4 @@ mod status;
 
 pub use board::BoardReportRef;
 pub use fault::RunFault;
-pub use print::reply_line;
 pub use report::write_report;

@@ -22,7 +22,7 @@ use Rattle.vme_mailbox_laws.proofs.lemmas.Lawful.{lies_at, lies_in, accepted}
 use Rattle.vme_mailbox_laws.proofs.lemmas.LinesApart.{left_alone}
 use Rattle.vme_threads.specs.declared.report.Report.{Report}
 use Rattle.vme_threads.specs.OneOrder.{IsReportOfOneOrder}
-use Rattle.vme_sequential.proofs.lemmas.Lists.{element_at}
+use Rattle.vme_run.proofs.lemmas.Lists.{element_at}
 use Rattle.vme_run_laws.specs.Declared.{IsDeclaredIn}
 use Rattle.vme_run_laws.proofs.Queues.{IsQueue, queue}
 

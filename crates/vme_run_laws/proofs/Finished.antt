@@ -22,7 +22,7 @@ use Rattle.vme_bus_objects.specs.Runs.{transitions_of}
 use Rattle.vme_threads.specs.declared.report.Report.{Report}
 use Rattle.vme_threads.specs.Rans.{replies_of_lines}
 use Rattle.vme_threads.specs.OneOrder.{IsReportOfOneOrder}
-use Rattle.vme_sequential.proofs.lemmas.Lists.{element_at}
+use Rattle.vme_run.proofs.lemmas.Lists.{element_at}
 use Rattle.vme_run_laws.specs.Finished.{AreFinished}
 
 -- a transfer or a local command does not end with `Unfinished`

@@ -27,10 +27,10 @@ use Rattle.vme_stepper.specs.Turns.{SystemState, script_state, turn, initial_sta
 use Rattle.vme_threads.specs.declared.report.Report.{Report}
 use Rattle.vme_threads.specs.Rans.{replies_of_lines}
 use Rattle.vme_threads.specs.OneOrder.{IsReportOfOneOrder}
-use Rattle.vme_sequential.specs.Orders.{ended_state}
-use Rattle.vme_sequential.proofs.lemmas.Lists.{map_at}
-use Rattle.vme_sequential.proofs.lemmas.Turns.{one_order}
-use Rattle.vme_sequential.proofs.lemmas.Reports.{answers, last, order}
+use Rattle.vme_run.specs.Orders.{ended_state}
+use Rattle.vme_run.proofs.lemmas.Lists.{map_at}
+use Rattle.vme_run.proofs.lemmas.Turns.{one_order}
+use Rattle.vme_run.proofs.lemmas.Reports.{answers, last, order}
 use Rattle.vme_run_laws.specs.Granted.{AreGranted}
 use Rattle.vme_run_laws.proofs.Called.{board_called}
 use Rattle.vme_run_laws.proofs.Runs.{AllStand, opening_stand, turn_stand, after_stand, granted_is}

@@ -29,7 +29,7 @@ use Rattle.vme_line_task.proofs.lemmas.Kept.{line_command_allowed}
 use Rattle.vme_stepper.specs.Turns.{SystemState, lines_left, turn, run as take_turns, initial_state}
 use Rattle.vme_threads.specs.declared.report.Report.{Report}
 use Rattle.vme_threads.specs.OneOrder.{IsReportOfOneOrder}
-use Rattle.vme_sequential.specs.Orders.{machine_after, slots_of}
+use Rattle.vme_run.specs.Orders.{machine_after, slots_of}
 use Rattle.vme_run_laws.specs.TurnCalls.{turn_call}
 use Rattle.vme_run_laws.specs.Orders.{IsOverBus, MovesData, IsRelease, Releases}
 use Rattle.vme_run_laws.proofs.Places.{lawful_level, slots_apart, place_is, left_own}

@@ -17,11 +17,11 @@ use Rattle.vme_bus_objects.specs.Runs.{transitions_of}
 use Rattle.vme_stepper.specs.Turns.{SystemState, lines_left, turn, run as take_turns, initial_state, state_after}
 use Rattle.vme_threads.specs.declared.report.Report.{Report}
 use Rattle.vme_threads.specs.OneOrder.{IsReportOfOneOrder}
-use Rattle.vme_sequential.specs.Orders.{Performs, performed, machine_after, slots_of}
-use Rattle.vme_sequential.proofs.lemmas.Lists.{element_at}
-use Rattle.vme_sequential.proofs.lemmas.ScriptTurns.{CanEnd, Leads, leads_first}
-use Rattle.vme_sequential.proofs.lemmas.Turns.{Ready, one_turn, begun, own_board, transitions_own}
-use Rattle.vme_sequential.proofs.lemmas.Reports.{answers, last, order}
+use Rattle.vme_run.specs.Orders.{Performs, performed, machine_after, slots_of}
+use Rattle.vme_run.proofs.lemmas.Lists.{element_at}
+use Rattle.vme_run.proofs.lemmas.ScriptTurns.{CanEnd, Leads, leads_first}
+use Rattle.vme_run.proofs.lemmas.Turns.{Ready, one_turn, begun, own_board, transitions_own}
+use Rattle.vme_run.proofs.lemmas.Reports.{answers, last, order}
 use Rattle.vme_run_laws.specs.TurnCalls.{call_or, first_call, script_state_call, place_call, turn_call}
 use Rattle.vme_run_laws.specs.Orders.{IsTurnAfter}
 use Rattle.vme_run_laws.proofs.Turned.{machine_called}

@@ -22,7 +22,7 @@ use Rattle.vme_mailbox_laws.proofs.lemmas.Shared.{proper, put_by_outcome, taken_
 use Rattle.vme_threads.specs.declared.report.Report.{Report}
 use Rattle.vme_threads.specs.Rans.{replies_of_lines}
 use Rattle.vme_threads.specs.OneOrder.{IsReportOfOneOrder}
-use Rattle.vme_sequential.proofs.lemmas.Lists.{element_at}
+use Rattle.vme_run.proofs.lemmas.Lists.{element_at}
 use Rattle.vme_run_laws.proofs.Shared.{own_runs, share, new_mailbox, replies_in_report, reported_each}
 
 -- a history is proper for a mailbox: there the mailbox is a queue, and each processor's words are those that the

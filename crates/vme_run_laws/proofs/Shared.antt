@@ -25,9 +25,9 @@ use Rattle.vme_threads.specs.declared.report.Report.{Report}
 use Rattle.vme_threads.specs.Rans.{replies_of_lines}
 use Rattle.vme_threads.specs.OneOrder.{IsReportOfOneOrder}
 use Rattle.vme_threads.proofs.lemmas.Parts.{part_of, board_whose}
-use Rattle.vme_sequential.proofs.lemmas.Lists.{values, values_count, each_value, value_pairs}
-use Rattle.vme_sequential.proofs.lemmas.Histories.{known_of}
-use Rattle.vme_sequential.proofs.lemmas.Reports.{order}
+use Rattle.vme_run.proofs.lemmas.Lists.{values, values_count, each_value, value_pairs}
+use Rattle.vme_run.proofs.lemmas.Histories.{known_of}
+use Rattle.vme_run.proofs.lemmas.Reports.{order}
 use Rattle.vme_run_laws.proofs.Granted.{run_turned}
 
 -- if all replies of a run satisfy `IsFittingReply`, so do those of one processor's transitions

@@ -6,7 +6,7 @@ use Rattle.vme_memory.specs.declared.reply.Reply.{Reply}
 use Rattle.vme_shared.specs.MailboxSteps.{BoardMailbox}
 use Rattle.vme_shared.specs.declared.status.Status.{Status}
 use Rattle.vme_script.specs.Lawful.{IsLawful}
-use Rattle.vme_engines.specs.RunTexts.{IsRunText}
+use Rattle.vme_run.specs.RunTexts.{IsRunText}
 use Rattle.vme_engines.proofs.lemmas.Lawful.{read_lawful}
 use Rattle.vme_run_laws.specs.Declared.{IsDeclaredIn}
 use Rattle.vme_run_laws.proofs.Queues.{IsQueue}

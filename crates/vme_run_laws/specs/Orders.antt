@@ -9,7 +9,7 @@ use Rattle.vme_script.specs.Configurations.{Configuration}
 use Rattle.vme_line_task.specs.Scripts.{slot_at}
 use Rattle.vme_line_task.specs.Tenures.{IsLocal}
 use Rattle.vme_stepper.specs.Turns.{state_after}
-use Rattle.vme_sequential.specs.Orders.{machine_after, slots_of}
+use Rattle.vme_run.specs.Orders.{machine_after, slots_of}
 use Rattle.vme_run_laws.specs.TurnCalls.{turn_call}
 
 -- a transition is the call of a turn: turns of the slots of the processors before it lead to the machine there, the

@@ -6,7 +6,7 @@ ghost use Rattle.vme_script.specs.Lawful.{IsLawful};
 ghost use Rattle.vme_line_task.specs.Scripts.{slot_at};
 ghost use Rattle.vme_threads.specs.declared.report.Report.{Report};
 ghost use Rattle.vme_threads.specs.OneOrder.{IsReportOfOneOrder};
-ghost use Rattle.vme_sequential.specs.Orders.{machine_after};
+ghost use Rattle.vme_run.specs.Orders.{machine_after};
 ghost use Rattle.vme_run_laws.specs.Orders.{IsTurnAfter, MovesData, Releases};
 
 /// Each transition in the one order of a report of a lawful configuration is the call of a turn,

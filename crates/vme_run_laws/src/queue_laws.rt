@@ -16,7 +16,7 @@ ghost use Rattle.vme_mailbox_laws.specs.Groups.{own_words_put, own_words_taken};
 ghost use Rattle.vme_threads.specs.declared.report.Report.{Report};
 ghost use Rattle.vme_threads.specs.Rans.{replies_of_lines};
 ghost use Rattle.vme_threads.specs.OneOrder.{IsReportOfOneOrder};
-ghost use Rattle.vme_engines.specs.RunTexts.{IsRunText};
+ghost use Rattle.vme_run.specs.RunTexts.{IsRunText};
 ghost use Rattle.vme_run_laws.specs.Declared.{IsDeclaredIn};
 
 /// In every report of one order of a lawful configuration, each declared mailbox is a queue. The

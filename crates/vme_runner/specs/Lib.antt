@@ -19,12 +19,12 @@ pub use Rattle.vme_threads.specs.OneOrder
 pub use Rattle.vme_threads.specs.Settlements
 pub use Rattle.vme_threads.specs.Gatherings
 pub use Rattle.vme_threads.specs.ReportTexts as ThreadReports
-pub use Rattle.vme_sequential.specs.Orders
+pub use Rattle.vme_run.specs.Orders
 pub use Rattle.vme_threads.specs.Threads
 -- The text of a report.
 pub use Rattle.vme_report.specs.Ends
 pub use Rattle.vme_report.specs.Reports as ReportTexts
-pub use Rattle.vme_engines.specs.RunTexts
+pub use Rattle.vme_run.specs.RunTexts
 -- Laws.
 pub use Rattle.vme_mailbox_laws.specs.Names
 pub use Rattle.vme_mailbox_laws.specs.Groups

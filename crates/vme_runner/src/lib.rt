@@ -3,17 +3,16 @@
 //! text, and the laws of runs. The crate re-exports items of other crates and defines none.
 #![tactic(auto)]
 
-pub use vme_engines::report_text;
 pub use vme_line_task::{LineTask, LineTodo};
 pub use vme_report::RunFault;
+pub use vme_run::{
+    a_run_of_threads_is_a_run_of_turns, one_order_has_a_history_of_each_object, report_text,
+};
 pub use vme_run_laws::{
     a_turn_makes_its_call_alone, blocks_do_not_interleave, commands_are_the_holders,
     data_move_for_the_holder, declared_mailboxes_are_queues, each_transition_is_a_turn,
     no_line_is_denied, no_line_is_unfinished, texts_show_queues, the_arbiter_denies_no_command,
     turns_are_a_run_of_transitions,
-};
-pub use vme_sequential::{
-    a_run_of_threads_is_a_run_of_turns, one_order_has_a_history_of_each_object,
 };
 pub use vme_shared::Status;
 pub use vme_stepper::run_steps;

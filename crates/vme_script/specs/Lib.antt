@@ -13,5 +13,5 @@ pub mod Scripts
 pub mod Configurations
 pub mod Readings
 pub mod Lawful
+pub mod ReplyTexts
 pub use Rattle.vme_grammar.specs.Grammar
-pub use Rattle.vme_report.specs.Texts

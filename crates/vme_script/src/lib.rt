@@ -2,7 +2,8 @@
 //! and address ranges (ANSI/IEEE Std 1014-1987, chapters 2 and 3), the scripts of their processors,
 //! the arbiter, the schedule and the mailboxes.
 //!
-//! Every file either is a lawful configuration or has one refusal.
+//! Every file either is a lawful configuration or has one refusal. [`reply_line`] appends the line of
+//! the reply to a script's line.
 #![tactic(auto)]
 
 mod arbiter;
@@ -17,6 +18,7 @@ mod mailbox;
 mod mailbox_numbers;
 mod mailboxes;
 mod read;
+mod reply;
 mod schedule;
 mod script;
 
@@ -27,8 +29,8 @@ pub use context::{MailboxDeclarations, ScriptContext};
 pub use fault::{ConfigFault, ScriptFault, ScriptRefusal};
 pub use laws::{addresses_select_ranges, tables_give_lawful_numbers};
 pub use mailbox::{mailbox_from_table, supports_mailboxes};
+pub use reply::reply_line;
 pub use script::{Script, ScriptLine};
 pub use vme_core::OutOfMemory;
 pub use vme_grammar::{Line, LineFault, parse_line};
-pub use vme_report::reply_line;
 pub use vme_shared::{LineReply, Mailbox};

@@ -5,7 +5,7 @@ use std::process::Abort;
 use vme_cycle::{Block, CycleFault};
 use vme_lanes::Datum;
 use vme_master::Outcome;
-use vme_report::reply_line;
+use vme_script::reply_line;
 use vme_shared::{LineReply, SharedOutcome};
 
 /// The text of the replies of `FORMS`, as the replies to line 1000 of slot 21.

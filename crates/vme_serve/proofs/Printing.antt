@@ -4,7 +4,7 @@ use Rattle.std.specs.Prelude.{is_ok, cond, OnOk}
 use Rattle.std.proofs.lemmas.Fmt.{decimal_digit}
 use Rattle.vme_grammar.specs.Texts.{output_line}
 use Rattle.vme_shared.specs.declared.reply.LineReply.{LineReply}
-use Rattle.vme_report.specs.Texts.{line_text, reply_text}
+use Rattle.vme_script.specs.ReplyTexts.{line_text, reply_text}
 
 -- line 1 of slot 1 has the four characters `1:1 ` before the reply
 pub printed : (old text : List ℕ) (reply : LineReply) → old ≡ [] → text ≡ old ++ line_text 1 1 reply

@@ -9,7 +9,7 @@ use Rattle.vme_shared.specs.declared.reply.LineReply.{LineReply}
 use Rattle.vme_shared.specs.declared.reply.LineReply.TheVariants as replies
 use Rattle.vme_grammar.specs.declared.line.Line.{Line}
 use Rattle.vme_grammar.specs.Texts.{line_fault_text, output_line}
-use Rattle.vme_report.specs.Texts.{reply_text}
+use Rattle.vme_script.specs.ReplyTexts.{reply_text}
 use Rattle.vme_script.specs.Configurations.{Configuration, opening_memory}
 use Rattle.vme_script.specs.Lawful.{IsLawful}
 use Rattle.vme_line_task.specs.Scripts.{Attempt, line_attempt}

@@ -5,8 +5,8 @@ ghost use Rattle.vme_cycle.specs.declared.request.Request.TheVariants.{Read};
 ghost use Rattle.vme_grammar.specs.Texts.{output_line};
 ghost use Rattle.vme_master.specs.Laws.{IsBelow};
 ghost use Rattle.vme_master.specs.Machine.{fresh_task};
-ghost use Rattle.vme_report.specs.Texts.{reply_text};
 ghost use Rattle.vme_script.specs.Configurations.{opening_memory};
+ghost use Rattle.vme_script.specs.ReplyTexts.{reply_text};
 ghost use Rattle.vme_shared.specs.Mailboxes.{IsWellFormed};
 ghost use Rattle.vme_line_task.specs.ReadBuffers.{request_read_len};
 ghost use Rattle.vme_line_task.specs.Scripts.{HasItsMailbox, HasMailbox, Transferring, Awaiting, transfer_job, request_attempt, shared_attempt, mailbox_at};
@@ -25,8 +25,7 @@ use vme_lanes::Datum;
 use vme_line_task::line_read_len;
 use vme_master::{Outcome, Task};
 use vme_memory::ByteMemory;
-use vme_report::reply_line;
-use vme_script::Config;
+use vme_script::{Config, reply_line};
 use vme_shared::{LineReply, Mailbox, SharedRequest, SharedTask};
 
 /// The number of calls that can be counted.
@@ -255,7 +254,7 @@ fn await_reply(outcome: Outcome, want: &[u8]) -> LineReply
 
 /// Appends the text of a reply as a line of its own: the line of a report without the slot and the
 /// number before the reply. `report_line` is a buffer.
-#[tactic(auto, unfolding(vme_report::specs::Texts::line_text))]
+#[tactic(auto, unfolding(vme_script::specs::ReplyTexts::line_text))]
 fn print_reply(
     reply: &LineReply,
     report_line: &mut Vec<u8>,

@@ -5,8 +5,7 @@ use std::process::Abort;
 use std::sync::Wait;
 use std::sync::atomic::{AtomicBool, Ordering};
 use std::thread::Threads;
-use vme_report::reply_line;
-use vme_script::Config;
+use vme_script::{Config, reply_line};
 use vme_threads::{Gate, Report, run_threads};
 
 /// The number of times that a processor checks a flag.

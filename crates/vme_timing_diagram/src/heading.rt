@@ -2,11 +2,12 @@
 ghost use Rattle.std.specs.Prelude.{◌≡◌, ◌++◌, OnOk};
 ghost use Rattle.vme_timing_diagram.specs.Headings.{is_first, grants, is_granted, in_block, number_before, single_word, datum_word, is_numbered, datum_text, release_word, activity_text, event_name, line_name, names_if, heading_text};
 
-use crate::shape::{begin_text, end_text, print_decimal, print_numbered};
+use crate::shape::{begin_text, end_text, print_numbered};
 use crate::window::Window;
 use std::alloc::AllocError;
 use vme_arbiter::ArbReply;
 use vme_core::EventReply;
+use vme_grammar::print_number;
 use vme_observation::{Activity, Observation, TransferredDatum};
 
 /// The middle of a cell.
@@ -69,7 +70,7 @@ fn print_event_name(text: &mut Vec<u8>, number: u32) -> Result<(), AllocError>
     ensures { OnOk result (text.new.items ≡ text.old.items ++ event_name number) }
 {
     begin_text(text, b"e", MIDDLE, 14)?;
-    print_decimal(text, number)?;
+    print_number(text, u64::from(number))?;
     end_text(text)
 }
 
@@ -79,7 +80,7 @@ fn print_line_name(text: &mut Vec<u8>, slot: u16, line: u16) -> Result<(), Alloc
     ensures { OnOk result (text.new.items ≡ text.old.items ++ line_name slot line) }
 {
     begin_text(text, b"s", MIDDLE, 28)?;
-    print_decimal(text, u32::from(slot))?;
+    print_number(text, u64::from(slot))?;
     print_numbered(text, b":", u32::from(line))?;
     end_text(text)
 }

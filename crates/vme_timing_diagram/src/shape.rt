@@ -5,6 +5,7 @@ ghost use Rattle.vme_timing_diagram.specs.Shapes.{path_text, to_text, dots_text,
 
 use crate::point::{Point, WIDTH, end_of};
 use std::alloc::AllocError;
+use vme_grammar::print_number;
 use vme_vcd::Value;
 
 /// The part of a cell in which a line has a value.
@@ -54,14 +55,6 @@ impl Span {
     }
 }
 
-/// Appends a number.
-pub(crate) fn print_decimal(text: &mut Vec<u8>, number: u32) -> Result<(), AllocError>
-    ensures { OnOk result (text.new.items ≡ text.old.items ++ decimal number) }
-{
-    let mut buffer = itoa::Buffer::new();
-    text.extend_from_slice(buffer.format(number).as_bytes())
-}
-
 /// Appends words and a number.
 pub(crate) fn print_numbered(
     text: &mut Vec<u8>,
@@ -71,7 +64,7 @@ pub(crate) fn print_numbered(
     ensures { OnOk result (text.new.items ≡ text.old.items ++ (words.now ++ decimal number)) }
 {
     text.extend_from_slice(words)?;
-    print_decimal(text, number)
+    print_number(text, u64::from(number))
 }
 
 /// Appends the begin of a path at a point.

@@ -1,10 +1,10 @@
 //! The note where events are not shown, the begin of the report, and the end of the page.
 ghost use Rattle.std.specs.Prelude.{◌≡◌, ◌++◌, OnOk};
-ghost use Rattle.std.specs.Fmt.{decimal};
 ghost use Rattle.vme_timing_page.specs.Notes.{none_begin, none_end, none_text, some_begin, some_middle, some_end, some_text, more_words, last_words, note_text, report_begin, page_end};
 
 use crate::range::EventRange;
 use std::alloc::AllocError;
+use vme_grammar::print_number;
 
 /// Appends which events are shown, if some are not. `count` is the number of events so far, of which
 /// the last may be past those that are shown.
@@ -34,7 +34,7 @@ fn print_none(text: &mut Vec<u8>, count: u32) -> Result<(), AllocError>
     ensures { OnOk result (text.new.items ≡ text.old.items ++ none_text count) }
 {
     text.extend_from_slice(none_begin())?;
-    print_decimal(text, count)?;
+    print_number(text, u64::from(count))?;
     text.extend_from_slice(none_end())
 }
 
@@ -59,9 +59,9 @@ fn print_some(text: &mut Vec<u8>, first: u32, last: u32) -> Result<(), AllocErro
     ensures { OnOk result (text.new.items ≡ text.old.items ++ some_text first last) }
 {
     text.extend_from_slice(some_begin())?;
-    print_decimal(text, first)?;
+    print_number(text, u64::from(first))?;
     text.extend_from_slice(some_middle())?;
-    print_decimal(text, last)?;
+    print_number(text, u64::from(last))?;
     text.extend_from_slice(some_end())
 }
 
@@ -103,14 +103,6 @@ fn print_last(text: &mut Vec<u8>) -> Result<(), AllocError>
     ensures { OnOk result (text.new.items ≡ text.old.items ++ last_words) }
 {
     text.extend_from_slice(b" They are the last of the run.</p>\n")
-}
-
-/// Appends a number.
-fn print_decimal(text: &mut Vec<u8>, number: u32) -> Result<(), AllocError>
-    ensures { OnOk result (text.new.items ≡ text.old.items ++ decimal number) }
-{
-    let mut buffer = itoa::Buffer::new();
-    text.extend_from_slice(buffer.format(number).as_bytes())
 }
 
 /// Appends the begin of the report.

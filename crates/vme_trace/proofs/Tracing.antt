@@ -16,7 +16,7 @@ use Rattle.vme_vcd.specs.Events.{events_text}
 use Rattle.vme_vcd.specs.Headers.{header_text, vcd_text}
 use Rattle.vme_engines.specs.declared.fault.ProgramFault.{ProgramFault}
 use Rattle.vme_engines.specs.Files.{Configures}
-use Rattle.vme_engines.specs.RunTexts.{WritesPrefix}
+use Rattle.vme_engines.specs.Faults.{WritesPrefix}
 use Rattle.vme_trace.specs.Traces.{turn_text, turn_count, IsTraceText}
 
 -- the text of what is left begins with that of the next turn

@@ -3,9 +3,8 @@ ghost use Rattle.std.specs.Prelude.{◌≡◌, Err, false, IfOk, IfErr, IfSome, 
 ghost use Rattle.std.specs.Io.KnownBytes.{Appends};
 ghost use Rattle.vme_script.specs.declared.fault.ConfigFault.{ConfigFault};
 ghost use Rattle.vme_script.specs.Configurations.{Configuration};
-ghost use Rattle.vme_engines.specs.Faults.{IsStepFault, ReadsWithin, is_read_failure, is_write_failure};
+ghost use Rattle.vme_engines.specs.Faults.{IsStepFault, ReadsWithin, WritesPrefix, is_read_failure, is_write_failure};
 ghost use Rattle.vme_engines.specs.Files.{Configures, IsRefusedAs};
-ghost use Rattle.vme_engines.specs.RunTexts.{WritesPrefix};
 ghost use Rattle.vme_stepper.specs.Schedules.{file_turns};
 ghost use Rattle.vme_vcd.specs.Headers.{vcd_text};
 ghost use Rattle.vme_trace.specs.Traces.{IsTraceText};

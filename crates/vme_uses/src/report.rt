@@ -1,16 +1,22 @@
 //! A use of `vme_report`.
-ghost use Rattle.std.specs.Prelude.{◌≡◌, ◌++◌, OnOk};
-ghost use Rattle.vme_report.specs.Texts.{line_text};
+ghost use Rattle.std.specs.Prelude.{◌≡◌, false, OnOk, ◌∷◌, []};
+ghost use Rattle.std.specs.Io.KnownBytes.{Appends};
+ghost use Rattle.vme_report.specs.Reports.{report_text};
 
-use std::alloc::AllocError;
-use vme_report::reply_line;
-use vme_shared::LineReply;
+use std::alloc::Global;
+use vme_io::Sink;
+use vme_report::{BoardReportRef, RunFault, write_report};
+use vme_shared::Status;
 
-/// Appends `2:1 met` and `2:2 timeout`: the replies to the first two lines of slot 2.
-pub fn two_replies(text: &mut Vec<u8>) -> Result<(), AllocError>
-    ensures { OnOk result (text.new.items
-        ≡ text.old.items ++ line_text 2 1 LineReply.Met ++ line_text 2 2 LineReply.Timeout) }
+/// Writes the report of a run of one board; returns `Clean` if each of its replies is a success.
+pub fn report_of_one<W: Sink>(
+    alloc: Global,
+    board: BoardReportRef<'_>,
+    writer: &mut W,
+) -> Result<Status, RunFault>
+    requires { W.is_marked writer.old ≡ false }
+    ensures { OnOk result
+        (Appends (W.contents writer.old) (W.contents writer.new) (report_text (board.entry ∷ []))) }
 {
-    reply_line(2, 1, &LineReply::Met, text)?;
-    reply_line(2, 2, &LineReply::Timeout, text)
+    write_report(alloc, &[board], writer)
 }

@@ -1,12 +1,12 @@
 //! The header: the variables, and their values before the first event.
 ghost use Rattle.std.specs.Prelude.{◌≡◌, ◌<◌, ◌++◌, OnOk, flat_map, length};
 ghost use Rattle.std.specs.List.{range_with_len};
-ghost use Rattle.std.specs.Fmt.{decimal};
 ghost use Rattle.vme_vcd.specs.Headers.{start_text, arbitration_text, address_text, data_text, bus_scope_text, first_arbitration_text, first_address_text, first_data_text, first_bus_text, middle_text, master_names, port_names, scope_name, scope_text, variable_code, variable_name, variable_text, first_text, first_slot_text, first_port_text, slot_scope, header_text};
 
 use crate::change::Code;
 use crate::print::print_code;
 use std::alloc::AllocError;
+use vme_grammar::print_number;
 use vme_script::Config;
 
 /// Appends the header of a configuration: the variables, and their values before the first event.
@@ -73,7 +73,7 @@ fn print_scope_name(text: &mut Vec<u8>, slot: u16) -> Result<(), AllocError>
     ensures { OnOk result (text.new.items ≡ text.old.items ++ scope_name slot) }
 {
     text.extend_from_slice(b"$scope module slot")?;
-    print_decimal(text, slot)?;
+    print_number(text, u64::from(slot))?;
     text.extend_from_slice(b" $end\n")
 }
 
@@ -146,18 +146,10 @@ fn print_variable_name(text: &mut Vec<u8>, slot: u16, name: &[u8]) -> Result<(),
     ensures { OnOk result (text.new.items ≡ text.old.items ++ variable_name slot name.now) }
 {
     text.extend_from_slice(b" s")?;
-    print_decimal(text, slot)?;
+    print_number(text, u64::from(slot))?;
     text.extend_from_slice(b"_")?;
     text.extend_from_slice(name)?;
     text.extend_from_slice(b" $end\n")
-}
-
-/// Appends a number.
-fn print_decimal(text: &mut Vec<u8>, number: u16) -> Result<(), AllocError>
-    ensures { OnOk result (text.new.items ≡ text.old.items ++ decimal number) }
-{
-    let mut buffer = itoa::Buffer::new();
-    text.extend_from_slice(buffer.format(number).as_bytes())
 }
 
 /// Appends the values of the variables of the slots.

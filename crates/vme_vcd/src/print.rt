@@ -5,6 +5,7 @@ ghost use Rattle.vme_vcd.specs.Changes.{binary, lane_digits, code_text, value_te
 
 use crate::change::{Change, Code, Value};
 use std::alloc::AllocError;
+use vme_grammar::print_number;
 
 /// The number of edges of an event.
 const EDGES: u8 = 20;
@@ -76,13 +77,13 @@ fn print_value(text: &mut Vec<u8>, value: Value) -> Result<(), AllocError>
         Value::High => text.extend_from_slice(b"1"),
         Value::Free => text.extend_from_slice(b"z"),
         Value::Released => text.extend_from_slice(b"bz "),
-        Value::Number { width, number } => print_number(text, width, number),
+        Value::Number { width, number } => print_vector(text, width, number),
         Value::Lanes(lanes) => print_lanes(text, &lanes),
     }
 }
 
 /// Appends a number as the value of a vector.
-fn print_number(text: &mut Vec<u8>, width: u8, number: u32) -> Result<(), AllocError>
+fn print_vector(text: &mut Vec<u8>, width: u8, number: u32) -> Result<(), AllocError>
     ensures { OnOk result
         (text.new.items ≡ text.old.items ++ (codes "b" ++ (binary width number ++ codes " "))) }
 {
@@ -167,8 +168,7 @@ pub(crate) fn print_code(text: &mut Vec<u8>, code: Code) -> Result<(), AllocErro
 fn print_time(text: &mut Vec<u8>, time: u64) -> Result<(), AllocError>
     ensures { OnOk result (text.new.items ≡ text.old.items ++ time_text time) }
 {
-    let mut buffer = itoa::Buffer::new();
     text.extend_from_slice(b"#")?;
-    text.extend_from_slice(buffer.format(time).as_bytes())?;
+    print_number(text, time)?;
     text.extend_from_slice(b"\n")
 }

@@ -1,7 +1,8 @@
 -- One more line is gathered; if the sink fails, a prefix of the replies was written.
 use Rattle.std.proofs.Common.{◌<◌, ◌+◌, ◌++◌, length, drop, arith, rules}
 use Rattle.vme_io.specs.Prefixes.{AppendsPrefix}
-use Rattle.vme_report.specs.Texts.{line_text, replies_text}
+use Rattle.vme_script.specs.ReplyTexts.{line_text}
+use Rattle.vme_report.specs.Texts.{replies_text}
 use Rattle.vme_io.proofs.lemmas.Gathering.{so_far_more, so_far_fails}
 use Rattle.vme_report.proofs.FirstParts.{reply_first}
 use Rattle.vme_report.proofs.gather.gather_replies.Goals as goal

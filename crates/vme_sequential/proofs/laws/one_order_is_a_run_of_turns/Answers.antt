@@ -1,5 +1,0 @@
-use Rattle.vme_sequential.proofs.lemmas.Turns.{one_order}
-use Rattle.vme_sequential.proofs.laws.one_order_is_a_run_of_turns.Goals as goal
-
-pub returns : goal.returns
-returns c = one_order
