@@ -1,26 +1,17 @@
 """The LLVM module of the proved program, for what is measured on a changed one: nothing of the changed program is proved."""
 
-import importlib.machinery
-import importlib.util
 import os
 import pathlib
-import shutil
 import subprocess
 import sys
 
 ROOT = pathlib.Path(__file__).resolve().parent.parent
-KIT = pathlib.Path(shutil.which("rt")).resolve().parent.parent
+sys.path.insert(0, str(ROOT / "scripts"))
+from kit import find_kit, load_rt  # noqa: E402
+
+KIT = find_kit()
 CLANG = KIT / "toolchain/bin/clang"
 PROGRAM = "vme"
-
-
-def load_rtlib():
-    """The module with which the kit's `rt` finds the words that build a crate."""
-    loader = importlib.machinery.SourceFileLoader("rtlib", str(KIT / "bin/rtlib.py"))
-    module = importlib.util.module_from_spec(importlib.util.spec_from_loader("rtlib", loader))
-    sys.modules["rtlib"] = module
-    loader.exec_module(module)
-    return module
 
 
 def catching_toolchain(folder):
@@ -39,7 +30,7 @@ def catching_toolchain(folder):
 def catch_module(folder):
     """The LLVM module of the program as text, and the words with which the kit's clang compiles it. The libraries of the program
     stand as `rt ci` or `vme --prove` left them; its own crate is proved once more."""
-    rtlib = load_rtlib()
+    rtlib = load_rt().rtlib
     crate = next(it for it in rtlib.crates_below(str(ROOT)) if it.name == PROGRAM)
     lacking = [it.name for it in crate.below() if not os.path.isdir(it.rlib)]
     if lacking:
