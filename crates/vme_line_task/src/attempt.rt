@@ -66,16 +66,16 @@ impl Attempts<'_> {
     /// Performs the current attempt's next event on `core` for processor `who`, gives the attempt
     /// the reply and returns whether the line has ended with this event. Another attempt may begin.
     #[inline(always)]
-    pub(crate) fn finishes_on(&mut self, core: &mut Core, who: usize) -> bool
+    pub(crate) fn step_on(&mut self, core: &mut Core, who: usize) -> bool
         requires who { who < process_count core.old }
         requires can { CanMake core.old (call_in (attempts_to_do self.old)) }
         ensures step { AdvancesOn attempts_to_do attempts_advance who core.old core.new self.old self.new }
         ensures ended { result ≡ ends_by_call attempts_to_do self.old self.new }
     {
         match &mut self.attempt {
-            AttemptTask::Transfer(task) => task.finishes_on(core, who),
-            AttemptTask::Await(wait) => wait.finishes_on(&mut self.left, core, who),
-            AttemptTask::Shared(task) => shared_finishes_on(task, &mut self.left, core, who),
+            AttemptTask::Transfer(task) => task.step_on(core, who),
+            AttemptTask::Await(wait) => wait.step_on(&mut self.left, core, who),
+            AttemptTask::Shared(task) => shared_step_on(task, &mut self.left, core, who),
         }
     }
 
@@ -84,7 +84,7 @@ impl Attempts<'_> {
     ///
     /// # Errors
     /// The fault of the call. The attempts are unchanged.
-    pub(crate) fn finishes_by<E, C>(&mut self, caller: &mut C, with: &E) -> Result<bool, C::Fault>
+    pub(crate) fn step_by<E, C>(&mut self, caller: &mut C, with: &E) -> Result<bool, C::Fault>
     where
         C: Caller<E>,
         requires { IfSome (call_in (attempts_to_do self.old)) (C.can with.now caller.old) }
@@ -93,9 +93,9 @@ impl Attempts<'_> {
         ensures unchanged { IfErr result (λ _. self.new ≡ self.old) }
     {
         match &mut self.attempt {
-            AttemptTask::Transfer(task) => transfer_finishes_by(task, caller, with),
-            AttemptTask::Await(wait) => wait.finishes_by(&mut self.left, caller, with),
-            AttemptTask::Shared(task) => shared_finishes_by(task, &mut self.left, caller, with),
+            AttemptTask::Transfer(task) => transfer_step_by(task, caller, with),
+            AttemptTask::Await(wait) => wait.step_by(&mut self.left, caller, with),
+            AttemptTask::Shared(task) => shared_step_by(task, &mut self.left, caller, with),
         }
     }
 }
@@ -183,12 +183,7 @@ impl AttemptTask<'_> {
 /// Performs the next event of an attempt at a lock or a mailbox on `core` for processor `who`, gives
 /// its task the reply and returns whether the line has ended with this event. Another attempt begins
 /// in place of one that ends with a reply that asks for it, if another is left.
-fn shared_finishes_on(
-    task: &mut SharedTask<'_>,
-    left: &mut u32,
-    core: &mut Core,
-    who: usize,
-) -> bool
+fn shared_step_on(task: &mut SharedTask<'_>, left: &mut u32, core: &mut Core, who: usize) -> bool
     requires who { who < process_count core.old }
     requires can { CanMake core.old (call_in (shared_to_do task.old)) }
     ensures step { AdvancesOn attempts_to_do attempts_advance who core.old core.new
@@ -208,12 +203,12 @@ fn shared_finishes_on(
 }
 
 /// Performs the next event of a transfer or a local command by a call of `caller`, as
-/// `Task::finishes_by` does. It is a function of its own because that one is always inlined, and
+/// `Task::step_by` does. It is a function of its own because that one is always inlined, and
 /// `vme run` drives no transfer or local command as a `LineTask`.
 ///
 /// # Errors
 /// The fault of the call. The task is unchanged.
-fn transfer_finishes_by<E, C: Caller<E>>(
+fn transfer_step_by<E, C: Caller<E>>(
     task: &mut Task<'_>,
     caller: &mut C,
     with: &E,
@@ -223,15 +218,15 @@ fn transfer_finishes_by<E, C: Caller<E>>(
     ensures ended { IfOk result (λ ended. ended ≡ ends_by_call to_do task.old task.new) }
     ensures unchanged { IfErr result (λ _. task.new ≡ task.old) }
 {
-    task.finishes_by(caller, with)
+    task.step_by(caller, with)
 }
 
 /// Performs the next event of an attempt at a lock or a mailbox by a call of `caller`, as
-/// `shared_finishes_on` does on a core.
+/// `shared_step_on` does on a core.
 ///
 /// # Errors
 /// The fault of the call. The attempt is unchanged.
-fn shared_finishes_by<E, C: Caller<E>>(
+fn shared_step_by<E, C: Caller<E>>(
     task: &mut SharedTask<'_>,
     left: &mut u32,
     caller: &mut C,

@@ -103,7 +103,7 @@ impl<'a> LineTask<'a> {
     /// whether the line has ended with this event. Without a next event nothing changes. With one,
     /// this is `event_ref`, `Core::apply_ref`, `advance` and `is_finished` in one, and faster.
     #[inline(always)]
-    pub fn finishes_on(&mut self, core: &mut Core, who: usize) -> bool
+    pub fn step_on(&mut self, core: &mut Core, who: usize) -> bool
         requires who { who < process_count core.old }
         requires can { CanMake core.old (call_in (line_to_do self.old)) }
         ensures step { AdvancesOn line_to_do line_advance who core.old core.new self.old self.new }
@@ -112,7 +112,7 @@ impl<'a> LineTask<'a> {
     {
         match self {
             LineTask::Refused(_) => false,
-            LineTask::Running(attempts) => attempts.finishes_on(core, who),
+            LineTask::Running(attempts) => attempts.step_on(core, who),
         }
     }
 
@@ -123,7 +123,7 @@ impl<'a> LineTask<'a> {
     ///
     /// # Errors
     /// The fault of the call. The line is unchanged.
-    pub fn finishes_by<E, C>(&mut self, caller: &mut C, with: &E) -> Result<bool, C::Fault>
+    pub fn step_by<E, C>(&mut self, caller: &mut C, with: &E) -> Result<bool, C::Fault>
     where
         C: Caller<E>,
         requires { IfSome (call_in (line_to_do self.old)) (C.can with.now caller.old) }
@@ -134,7 +134,7 @@ impl<'a> LineTask<'a> {
     {
         match self {
             LineTask::Refused(_) => Ok(false),
-            LineTask::Running(attempts) => attempts.finishes_by(caller, with),
+            LineTask::Running(attempts) => attempts.step_by(caller, with),
         }
     }
 

@@ -47,25 +47,25 @@ impl<'a> AwaitTask<'a> {
     /// whether the line has ended with this event. Another read begins in place of one that ends
     /// with other bytes, if another is left: `left` counts this one too. `advance` begins no other.
     #[inline(always)]
-    pub(crate) fn finishes_on(&mut self, left: &mut u32, core: &mut Core, who: usize) -> bool
+    pub(crate) fn step_on(&mut self, left: &mut u32, core: &mut Core, who: usize) -> bool
         requires who { who < process_count core.old }
         requires can { CanMake core.old (call_in (to_do self.old.task)) }
         ensures step { AdvancesOn attempts_to_do attempts_advance who core.old core.new
             (read_attempts self.old left.old) (read_attempts self.new left.new) }
         ensures ended { result ≡ ends_by_call attempts_to_do (read_attempts self.old left.old) (read_attempts self.new left.new) }
     {
-        if !self.task.finishes_on(core, who) {
+        if !self.task.step_on(core, who) {
             return false;
         }
         self.retry(left);
         self.task.is_finished()
     }
 
-    /// Performs the next event by a call of `caller`, as `finishes_on` does on a core.
+    /// Performs the next event by a call of `caller`, as `step_on` does on a core.
     ///
     /// # Errors
     /// The fault of the call. The read is unchanged.
-    pub(crate) fn finishes_by<E, C: Caller<E>>(
+    pub(crate) fn step_by<E, C: Caller<E>>(
         &mut self,
         left: &mut u32,
         caller: &mut C,
@@ -78,7 +78,7 @@ impl<'a> AwaitTask<'a> {
             ended ≡ ends_by_call attempts_to_do (read_attempts self.old left.old) (read_attempts self.new left.new)) }
         ensures unchanged { IfErr result (λ _. read_attempts self.new left.new ≡ read_attempts self.old left.old) }
     {
-        if !self.task.finishes_by(caller, with)? {
+        if !self.task.step_by(caller, with)? {
             return Ok(false);
         }
         self.retry(left);

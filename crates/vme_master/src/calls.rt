@@ -24,13 +24,13 @@ impl Task<'_> {
         requires can { CanMake core.old (call_in (to_do self.old)) }
         ensures { AdvancesOn to_do advance who core.old core.new self.old self.new }
     {
-        self.finishes_on(core, who);
+        self.step_on(core, who);
     }
 
     /// Performs the next event on `core` for processor `who` as `advance_on` does, and returns
     /// whether the task has ended with this event.
     #[inline(always)]
-    pub fn finishes_on(&mut self, core: &mut Core, who: usize) -> bool
+    pub fn step_on(&mut self, core: &mut Core, who: usize) -> bool
         requires who { who < process_count core.old }
         requires can { CanMake core.old (call_in (to_do self.old)) }
         ensures step { AdvancesOn to_do advance who core.old core.new self.old self.new }
@@ -56,7 +56,7 @@ impl Task<'_> {
             }
             (Job::Bus(job), Phase::Transferring { i }) => {
                 let Some((board, offset)) = job.place else {
-                    return self.finishes_on_in_parts(core, who);
+                    return self.step_on_in_parts(core, who);
                 };
                 let reply = core.apply_datum(who, board, &job.datum_at(board, offset, i));
                 self.on_board_reply(Phase::Transferring { i }, &reply);
@@ -71,8 +71,8 @@ impl Task<'_> {
         }
     }
 
-    /// Performs the next event as `finishes_on` does, by `event_ref`, `Core::apply_ref` and `advance`.
-    fn finishes_on_in_parts(&mut self, core: &mut Core, who: usize) -> bool
+    /// Performs the next event as `step_on` does, by `event_ref`, `Core::apply_ref` and `advance`.
+    fn step_on_in_parts(&mut self, core: &mut Core, who: usize) -> bool
         requires who { who < process_count core.old }
         requires can { CanMake core.old (call_in (to_do self.old)) }
         ensures step { AdvancesOn to_do advance who core.old core.new self.old self.new }
@@ -94,7 +94,7 @@ impl Task<'_> {
     ///
     /// The fault of the call. The task is unchanged.
     #[inline(always)]
-    pub fn finishes_by<E, C>(&mut self, caller: &mut C, with: &E) -> Result<bool, C::Fault>
+    pub fn step_by<E, C>(&mut self, caller: &mut C, with: &E) -> Result<bool, C::Fault>
     where
         C: Caller<E>,
         requires { IfSome (call_in (to_do self.old)) (C.can with.now caller.old) }
@@ -104,20 +104,20 @@ impl Task<'_> {
         ensures unchanged { IfErr result (λ _. self.new ≡ self.old) }
     {
         let Some(cmd) = self.bus_command() else {
-            return self.finishes_by_board(caller, with);
+            return self.step_by_board(caller, with);
         };
         let reply = caller.command_bus(with, &cmd)?;
         self.on_bus_reply(self.phase, reply);
         Ok(self.is_finished())
     }
 
-    /// Performs the next event, which is not a command to the arbiter, as `finishes_by` does. Without
+    /// Performs the next event, which is not a command to the arbiter, as `step_by` does. Without
     /// a next event nothing changes.
     ///
     /// # Errors
     ///
     /// The fault of the call. The task is unchanged.
-    fn finishes_by_board<E, C>(&mut self, caller: &mut C, with: &E) -> Result<bool, C::Fault>
+    fn step_by_board<E, C>(&mut self, caller: &mut C, with: &E) -> Result<bool, C::Fault>
     where
         C: Caller<E>,
         requires other { (cmd : AnyArbCmd) → call_in (to_do self.old) ≢ Some (OnBus cmd) }

@@ -211,7 +211,7 @@ impl<'a> Processor<'a> {
         let Some(task) = &mut self.task else {
             return;
         };
-        if task.finishes_on(core, board) {
+        if task.step_on(core, board) {
             end_line(&mut self.lines, self.ended, &mut self.task);
             self.ended += 1;
         }

@@ -125,7 +125,7 @@ impl ProcessorPass {
             if ports.stop.load(Ordering::SeqCst) {
                 return Err(Spent);
             }
-            if task.finishes_by(self, &context)? {
+            if task.step_by(self, &context)? {
                 return Ok(LineReply::Transfer(task.into_outcome().unwrap()));
             }
         }

@@ -141,7 +141,7 @@ impl ProcessorPass {
                 return Err(Spent);
             }
             let attempts = task.attempts_left();
-            if task.finishes_by(self, &context)? {
+            if task.step_by(self, &context)? {
                 return Ok(task.into_reply().unwrap());
             }
             self.pause(&backoff, attempts, task.attempts_left());

@@ -19,15 +19,15 @@ loop-init g c =
     (get_or_from_slice_get (map (λ board. board.level) boards) c.args.self.now.who c.level-level.result 0 c.level-level.ensures)
     (rw c.in-Ok.is at c.start.ensures) c.advance.ensures.task c.advance.ensures.begun
 
-pub finishes_by-requires : goal.finishes_by-requires
-finishes_by-requires g c =
+pub step_by-requires : goal.step_by-requires
+step_by-requires g c =
     request_can c.args.config.now c.args.ports.now c.args.request.now c.args.self.now c.loop.self c.loop.task c.requires.fits c.requires.board
     c.requires.boards c.loop.invariant
 
 pub loop-preserved : goal.loop-preserved
 loop-preserved g c =
-    request_called c.args.config.now c.args.request.now c.args.self.now c.loop.self c.finishes_by.new.caller c.loop.task c.finishes_by.new.self
-    c.loop.invariant c.in_ok-finishes_by.ensures.step
+    request_called c.args.config.now c.args.request.now c.args.self.now c.loop.self c.step_by.new.caller c.loop.task c.step_by.new.self
+    c.loop.invariant c.in_ok-step_by.ensures.step
 
 pub returns-then-is_finished : goal.returns-then-is_finished
 returns-then-is_finished g c =
@@ -43,7 +43,7 @@ returns-then-is_finished g c =
 
 pub returns-then-branch : goal.returns-then-branch
 returns-then-branch g c =
-    request_end c.args.config.now c.args.request.now c.args.self.now c.finishes_by.new.caller c.finishes_by.new.self c.unwrap-then-branch.result
-    (request_called c.args.config.now c.args.request.now c.args.self.now c.loop.self c.finishes_by.new.caller c.loop.task
-    c.finishes_by.new.self c.loop.invariant c.in_ok-finishes_by.ensures.step)
+    request_end c.args.config.now c.args.request.now c.args.self.now c.step_by.new.caller c.step_by.new.self c.unwrap-then-branch.result
+    (request_called c.args.config.now c.args.request.now c.args.self.now c.loop.self c.step_by.new.caller c.loop.task
+    c.step_by.new.self c.loop.invariant c.in_ok-step_by.ensures.step)
     (rw c.unwrap-then-branch.ensures at c.into_outcome-then-branch.ensures)

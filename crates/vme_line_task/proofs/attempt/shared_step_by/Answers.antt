@@ -10,7 +10,7 @@ use Rattle.vme_line_task.specs.Attempts.{shared_attempts}
 use Rattle.vme_line_task.specs.Machine.{attempts_to_do}
 use Rattle.vme_line_task.proofs.lemmas.Calls.{calls_going, called_then, map_result}
 use Rattle.vme_line_task.proofs.lemmas.Callers.{shared_called}
-use Rattle.vme_line_task.proofs.attempt.shared_finishes_by.Goals as goal
+use Rattle.vme_line_task.proofs.attempt.shared_step_by.Goals as goal
 
 pub returns-clause-step : goal.returns-clause-step
 returns-clause-step g c =

@@ -1,7 +1,7 @@
 -- Attempts at a lock or a mailbox make the current one's call, and another may begin if this one ends.
 use Rattle.std.proofs.Common.{is_some, ap, sym, ◌∙◌}
 use Rattle.vme_line_task.proofs.lemmas.Calls.{shared_advances, shared_ends, shared_no_call, shared_rests}
-use Rattle.vme_line_task.proofs.attempt.shared_finishes_on.Goals as goal
+use Rattle.vme_line_task.proofs.attempt.shared_step_on.Goals as goal
 
 pub returns-then-had_ended-clause-step : goal.returns-then-had_ended-clause-step
 returns-then-had_ended-clause-step c =
