@@ -11,6 +11,7 @@
 mod check;
 mod explain;
 mod fault;
+mod forms;
 mod input;
 mod outcomes;
 mod page;

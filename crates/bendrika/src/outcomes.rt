@@ -2,7 +2,7 @@
 use crate::fault::Fault;
 use crate::input::{STANDARD_INPUT, name_of, read_file, refuse};
 use crate::status::Status;
-use clap::{Arg, ArgAction, ArgMatches, Command, value_parser};
+use clap::ArgMatches;
 use std::alloc::{AllocError, Global};
 use std::io;
 use vme_check::shown_name;
@@ -11,66 +11,8 @@ use vme_io::{Io, SliceSource};
 use vme_outcome_listing::{Asked, Condition, Kind, OutcomesFault, outcomes_engine};
 use vme_script::{Config, Line};
 
-/// The greatest number of states if the words do not say another.
-const LIMIT: &str = "1000000";
-
-/// The greatest number of states that the words may say.
-const MOST_STATES: i64 = 100_000_000;
-
 /// The numbers of states at which a search says how far it is, if the words ask for it.
 const STAGES: [usize; 4] = [10_000, 100_000, 1_000_000, 10_000_000];
-
-/// Returns the words of `bendrika outcomes`.
-pub(crate) fn outcomes<'a>(alloc: Global) -> Result<Command<'a>, AllocError> {
-    let file = Arg::new(alloc, "FILE")
-        .value_name("FILE")
-        .required(true)
-        .help("A configuration file; - is standard input");
-    let quiet = Arg::new(alloc, "quiet")
-        .short('q')
-        .long("quiet")
-        .action(ArgAction::SetTrue)
-        .help("Print no outcome, but the conditions and the number of outcomes");
-    let limit = Arg::new(alloc, "limit")
-        .long("limit")
-        .value_name("N")
-        .action(ArgAction::Set)
-        .value_parser(value_parser!(usize).range(1..=MOST_STATES))
-        .default_value(LIMIT)
-        .help("Explore at most N states");
-    let progress = Arg::new(alloc, "progress")
-        .long("progress")
-        .action(ArgAction::SetTrue)
-        .help("Report on standard error when 10000, 100000, .. states are passed");
-    Command::new(alloc, "outcomes")
-        .about("List every outcome that some order of turns gives, each with a schedule")
-        .after_help(
-            "Status: 0 listed, 1 a condition fails, 2 wrong words or no configuration, 3 a fault or too many states",
-        )
-        .arg(file)?
-        .arg(condition(
-            alloc,
-            "never",
-            "Fail if some outcome has these lines, separated by ;",
-        ))?
-        .arg(condition(
-            alloc,
-            "always",
-            "Fail if some outcome lacks one of these lines",
-        ))?
-        .arg(quiet)?
-        .arg(limit)?
-        .arg(progress)
-}
-
-/// Returns an option that states a condition.
-fn condition<'a>(alloc: Global, name: &'a str, help: &'a str) -> Arg<'a> {
-    Arg::new(alloc, name)
-        .long(name)
-        .value_name("TEXT")
-        .action(ArgAction::Append)
-        .help(help)
-}
 
 /// The conditions that the words state, each with its text.
 #[derive(Drop)]
