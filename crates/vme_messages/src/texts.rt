@@ -8,6 +8,7 @@ mod cycle;
 mod document;
 mod line;
 mod mailbox;
+mod message;
 mod names;
 mod quote;
 mod refused;

@@ -1,4 +1,5 @@
 //! The texts of refusals of requests, K1 to K9.
+use crate::texts::message::{Message, Value, push_message, with, with_two};
 use crate::texts::names::space_name;
 use std::alloc::AllocError;
 use std::fmt::Write;
@@ -10,68 +11,88 @@ use vme_faults::CycleCause;
 ///
 /// An allocation failed.
 pub(crate) fn write_message(cause: CycleCause, to: &mut String) -> Result<(), AllocError> {
+    push_message(&message_of(cause), to)
+}
+
+/// The message of a cause.
+fn message_of(cause: CycleCause) -> Message {
     match cause {
-        CycleCause::NoCode { am } => {
-            write!(
-                to,
-                "code {am:02x} is above 3f: an address modifier has six bits"
-            )
-        }
-        CycleCause::UserCode { am } => write!(
-            to,
-            "code {am:02x} is user-defined (10 to 1f); this master does not send it"
+        CycleCause::NoCode { am } => with(
+            "code {} is above 3f: an address modifier has six bits",
+            Value::Code(am),
         ),
-        CycleCause::ReservedCode { am } => write!(to, "code {am:02x} is reserved"),
-        CycleCause::BlockCode { am } => write!(
-            to,
-            "code {am:02x} is a block code, and this request is not a block"
+        CycleCause::UserCode { am } => with(
+            "code {} is user-defined (10 to 1f); this master does not send it",
+            Value::Code(am),
+        ),
+        CycleCause::ReservedCode { am } => with("code {} is reserved", Value::Code(am)),
+        CycleCause::BlockCode { am } => with(
+            "code {} is a block code, and this request is not a block",
+            Value::Code(am),
         ),
         CycleCause::NoBlockCode { am } => {
-            write!(to, "code {am:02x} of this block is not a block code")
+            with("code {} of this block is not a block code", Value::Code(am))
         }
         CycleCause::ProgramModify { am } => {
-            write!(to, "read-modify-write with program code {am:02x}")
+            with("read-modify-write with program code {}", Value::Code(am))
         }
-        CycleCause::SingleLength { bytes } => {
-            write!(to, "a single cycle carries 1 to 4 bytes, not {bytes}")
-        }
-        CycleCause::ModifyLength { bytes } => {
-            write!(to, "a read-modify-write has 1, 2 or 4 bytes, not {bytes}")
-        }
-        CycleCause::DatumLength { am, bytes } => write!(
-            to,
-            "a datum of a block with code {am:02x} has 1, 2 or 4 bytes, not {bytes}"
+        CycleCause::SingleLength { bytes } => with(
+            "a single cycle carries 1 to 4 bytes, not {}",
+            Value::Number(bytes as u64),
         ),
-        CycleCause::WideLength { am, bytes } => {
-            write!(to, "a datum with code {am:02x} has 8 bytes, not {bytes}")
-        }
-        CycleCause::DataCount { data } => write!(to, "a block has 1 to 256 data, not {data}"),
-        CycleCause::BytesLeft { bytes, datum } => write!(
-            to,
-            "{bytes} bytes are not a multiple of a datum of {datum} bytes"
+        CycleCause::ModifyLength { bytes } => with(
+            "a read-modify-write has 1, 2 or 4 bytes, not {}",
+            Value::Number(bytes as u64),
         ),
-        CycleCause::OutsideSpace { space, last } => {
-            let end = space.addresses().saturating_sub(1);
-            let space = space_name(space);
-            write!(
-                to,
-                "the last byte, {last:08x}, is outside space {space} (0 to {end:x})"
-            )
-        }
-        CycleCause::NoLocation { addr, bytes } => {
-            write!(to, "no cycle has {bytes} bytes at {addr:08x}")
-        }
-        CycleCause::AddressNotAligned { addr, datum } => {
-            write!(to, "address {addr:08x} is not a multiple of {datum}")
-        }
+        CycleCause::DatumLength { am, bytes } => with_two(
+            "a datum of a block with code {} has 1, 2 or 4 bytes, not {}",
+            Value::Code(am),
+            Value::Number(bytes as u64),
+        ),
+        CycleCause::WideLength { am, bytes } => with_two(
+            "a datum with code {} has 8 bytes, not {}",
+            Value::Code(am),
+            Value::Number(bytes as u64),
+        ),
+        CycleCause::DataCount { data } => with(
+            "a block has 1 to 256 data, not {}",
+            Value::Number(data as u64),
+        ),
+        CycleCause::BytesLeft { bytes, datum } => with_two(
+            "{} bytes are not a multiple of a datum of {} bytes",
+            Value::Number(bytes as u64),
+            Value::Number(u64::from(datum)),
+        ),
+        CycleCause::OutsideSpace { space, last } => Message {
+            text: "the last byte, {}, is outside space {} (0 to {})",
+            values: [
+                Value::Address(last),
+                Value::Word(space_name(space)),
+                Value::Hex(space.addresses().saturating_sub(1)),
+            ],
+        },
+        CycleCause::NoLocation { addr, bytes } => with_two(
+            "no cycle has {} bytes at {}",
+            Value::Number(u64::from(bytes)),
+            Value::Address(u64::from(addr)),
+        ),
+        CycleCause::AddressNotAligned { addr, datum } => with_two(
+            "address {} is not a multiple of {}",
+            Value::Address(u64::from(addr)),
+            Value::Number(u64::from(datum)),
+        ),
         CycleCause::Crosses {
             addr,
             last,
             boundary,
-        } => write!(
-            to,
-            "the block from {addr:08x} to {last:08x} crosses a boundary of {boundary} bytes"
-        ),
+        } => Message {
+            text: "the block from {} to {} crosses a boundary of {} bytes",
+            values: [
+                Value::Address(u64::from(addr)),
+                Value::Address(last),
+                Value::Number(u64::from(boundary)),
+            ],
+        },
     }
 }
 
