@@ -12,7 +12,7 @@ use vme_cycle::Request;
 use vme_decode::{AddressMap, Entry};
 use vme_explore::System;
 use vme_io::RoomSink;
-use vme_memory::{BoardCmd, Reply};
+use vme_memory::BoardCmd;
 use vme_object::{Counter, Object};
 use vme_port::Port;
 use vme_report::BoardReportRef;
@@ -22,7 +22,7 @@ use vme_shared::{LineReply, SharedTodo};
 use vme_uses::{
     am, arbiter, bus_objects, bus_wait, config_toml, cores, cycle, decode, devices, engines,
     explore, grammar, lanes, lexer, line_task, mailbox_laws, master, memory, object, port, report,
-    run_laws, runner, script, shared, slave, states, stepper, threads,
+    run_laws, runner, script, shared, states, stepper, threads,
 };
 
 static FILE: &str = "[[board]]
@@ -98,15 +98,6 @@ fn objects_and_ports(rt: HostRuntime) -> Result<(), Fail> {
     assert_eq!(&rt; port::bump(&rt, &port, &mut pass).ok(), Some(7));
     let all = Vec::from_array(rt.alloc(), [pass])?;
     assert_eq!(&rt; port::total(port, all), Some(1));
-    Ok(())
-}
-
-#[test]
-fn a_board_of_lent_bytes(rt: HostRuntime) -> Result<(), Fail> {
-    let Reply::Bytes(four) = slave::first_four(&[1, 2, 3, 4, 5]) else {
-        panic!(&rt; "no bytes")
-    };
-    assert_eq!(&rt; four.as_slice(), [1, 2, 3, 4].as_slice());
     Ok(())
 }
 

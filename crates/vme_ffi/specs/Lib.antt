@@ -4,6 +4,7 @@ pub mod Tables
 pub mod Lines
 pub mod Requests
 pub mod Boards
+pub mod Slices
 pub mod Maps
 pub mod Arbiters
 pub mod Fills

@@ -3,13 +3,14 @@ ghost use Rattle.std.specs.Prelude.{◌≡◌};
 ghost use Rattle.vme_memory.specs.declared.class.Class.{Class as BoardClass};
 ghost use Rattle.vme_memory.specs.Steps as Steps;
 ghost use Rattle.vme_memory.specs.Steps.{step};
-ghost use Rattle.vme_slave.specs.Slices.{board_of};
+ghost use Rattle.vme_ffi.specs.Slices.{board_of};
 ghost use Rattle.vme_ffi.specs.Data.{datum_of};
 ghost use Rattle.vme_ffi.specs.Requests.{modify_of};
 ghost use Rattle.vme_ffi.specs.Boards.{result_of, Writes};
 
 use crate::datum::{VmeDatum, bytes_of};
 use crate::modify::{VmeModify, modify_of};
+use crate::slave::local_port::{local_modify, local_read, local_write};
 use crate::slave::{result_of, write_reply};
 
 /// Replies to a read of `n` bytes, 1, 2 or 4, at offset `at` by the local port. Returns `OK` and
@@ -21,7 +22,7 @@ pub extern "C" fn vme_local_read(bytes: &[u8], at: u32, n: u8, out: &mut VmeDatu
     ensures out { (class : BoardClass) →
         Writes (step (board_of bytes.now class) (Steps.LocalRead at n)).0 out.old out.new }
 {
-    write_reply(&vme_slave::local_read(bytes, at, n), out)
+    write_reply(&local_read(bytes, at, n), out)
 }
 
 /// Replies to a write of a datum of 1, 2 or 4 bytes at offset `at` by the local port. Returns `OK`,
@@ -33,7 +34,7 @@ pub extern "C" fn vme_local_write(bytes: &mut [u8], at: u32, datum: &VmeDatum) -
     ensures memory { (class : BoardClass) → board_of bytes.new class
         ≡ (step (board_of bytes.old class) (Steps.LocalWrite at (datum_of datum.now))).1 }
 {
-    result_of(&vme_slave::local_write(bytes, at, bytes_of(datum)))
+    result_of(&local_write(bytes, at, bytes_of(datum)))
 }
 
 /// Replies to a read-modify-write of `n` bytes, 1, 2 or 4, at offset `at` by the local port.
@@ -53,5 +54,5 @@ pub extern "C" fn vme_local_modify(
     ensures memory { (class : BoardClass) → board_of bytes.new class
         ≡ (step (board_of bytes.old class) (Steps.LocalModify at n (modify_of f.now))).1 }
 {
-    write_reply(&vme_slave::local_modify(bytes, at, n, &modify_of(f)), out)
+    write_reply(&local_modify(bytes, at, n, &modify_of(f)), out)
 }

@@ -1,18 +1,28 @@
-//! The slave of a board whose bytes the caller holds.
+//! The slave of a board whose bytes the caller holds, for C; `slave/` has its replies to cycles of
+//! the data transfer bus, to accesses without lines, and to its local port. Replies and new bytes
+//! are those of a `vme_memory` board (ANSI/IEEE Std 1014-1987, section 2.3.6: D08(EO), D16 and D32
+//! slaves).
 ghost use Rattle.std.specs.Prelude.{◌≡◌, IfSome, IfNone};
 ghost use Rattle.vme_memory.specs.Steps as Steps;
 ghost use Rattle.vme_memory.specs.Steps.{cycle, step, read_command, write_command};
-ghost use Rattle.vme_slave.specs.Slices.{board_of};
+ghost use Rattle.vme_ffi.specs.Slices.{board_of};
 ghost use Rattle.vme_ffi.specs.Data.{level_of, datum_of};
 ghost use Rattle.vme_ffi.specs.Requests.{modify_of, function_of};
 ghost use Rattle.vme_ffi.specs.Lines.{cycle_shown};
 ghost use Rattle.vme_ffi.specs.Boards.{class_of, result_of, Writes};
 ghost use Rattle.vme_ffi.specs.Results.{bad_lines};
 
+mod access;
+mod bytes;
+mod cycle;
+pub(crate) mod local_port;
+
 use crate::datum::{VmeDatum, bytes_of, datum_from, level_of};
 use crate::lines::{VmeLines, signals_of};
 use crate::modify::{VmeModify, function_of, modify_of};
 use crate::results::{BAD_LINES, BUS_ERROR, OK};
+use crate::slave::access::{bytes_read, modify, write};
+use crate::slave::cycle::cycle;
 use vme_memory::{Class, Reply, Width8To32};
 
 /// The cycles to which the slave of a board replies.
@@ -98,7 +108,7 @@ pub extern "C" fn vme_slave_cycle(
         return BAD_LINES;
     };
     let f = function_of(f);
-    let reply = vme_slave::cycle(bytes, class_of(class), &signals, at, f.as_ref());
+    let reply = cycle(bytes, class_of(class), &signals, at, f.as_ref());
     write_reply(&reply, out)
 }
 
@@ -119,7 +129,7 @@ pub extern "C" fn vme_slave_read(
     ensures out { Writes (step (board_of bytes.now (class_of class.now)) (read_command (level_of block) at n)).0
         out.old out.new }
 {
-    let Some(read) = vme_slave::bytes_read(bytes, class_of(class), level_of(block), at, n) else {
+    let Some(read) = bytes_read(bytes, class_of(class), level_of(block), at, n) else {
         return BUS_ERROR;
     };
     *out = datum_from(read);
@@ -142,7 +152,7 @@ pub extern "C" fn vme_slave_write(
         (write_command (level_of block) at (datum_of datum.now))).1 }
 {
     let new = bytes_of(datum);
-    result_of(&vme_slave::write(bytes, class_of(class), level_of(block), at, new))
+    result_of(&write(bytes, class_of(class), level_of(block), at, new))
 }
 
 /// Replies to a read-modify-write of `n` bytes at offset `at`: IEEE 1014-1987, 2.3.8
@@ -163,6 +173,6 @@ pub extern "C" fn vme_slave_modify(
     ensures memory { board_of bytes.new (class_of class.now)
         ≡ (step (board_of bytes.old (class_of class.now)) (Steps.Modify at n (modify_of f.now))).1 }
 {
-    let reply = vme_slave::modify(bytes, class_of(class), at, n, &modify_of(f));
+    let reply = modify(bytes, class_of(class), at, n, &modify_of(f));
     write_reply(&reply, out)
 }

@@ -30,7 +30,6 @@ pub mod run_laws;
 pub mod runner;
 pub mod script;
 pub mod shared;
-pub mod slave;
 pub mod states;
 pub mod stepper;
 pub mod threads;

@@ -2,9 +2,9 @@
 ghost use Rattle.std.specs.Prelude.{◌≡◌};
 ghost use Rattle.std.specs.Option.{option_map};
 ghost use Rattle.vme_memory.specs.Steps.{answer, driven_write, wide_command, cycle};
-ghost use Rattle.vme_slave.specs.Slices.{board_of};
+ghost use Rattle.vme_ffi.specs.Slices.{board_of};
 
-use crate::access::{WIDE_LEN, modify, read, write};
+use crate::slave::access::{WIDE_LEN, modify, read, write};
 use vme_cycle::{Modify, Signals};
 use vme_lanes::{DataLines, Location, pick, pick_wide};
 use vme_memory::{Class, Reply};
@@ -18,7 +18,7 @@ use vme_memory::{Class, Reply};
 /// In a block, this is one datum: the slave increments the address and takes A01 from `at`. A
 /// read-modify-write shows its read half, and the reply has the old bytes.
 #[tactic(auto, unfolding(vme_memory::specs::Steps::cycle))]
-pub fn cycle(
+pub(crate) fn cycle(
     bytes: &mut [u8],
     class: Class,
     signals: &Signals,

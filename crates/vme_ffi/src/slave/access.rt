@@ -8,9 +8,9 @@ ghost use Rattle.vme_memory.specs.Classes.{answers, is_block_place, is_modify_pl
 ghost use Rattle.vme_memory.specs.declared.reply.Reply.TheVariants.{Bytes, Berr};
 ghost use Rattle.vme_memory.specs.Steps as Steps;
 ghost use Rattle.vme_memory.specs.Steps.{step, fits, can_answer, has_block_cycle, read_command, write_command};
-ghost use Rattle.vme_slave.specs.Slices.{board_of};
+ghost use Rattle.vme_ffi.specs.Slices.{board_of};
 
-use crate::bytes::{bytes_at, datum_of, fits, overwrite};
+use crate::slave::bytes::{bytes_at, datum_of, fits, overwrite};
 use vme_cycle::Modify;
 use vme_memory::{Class, Reply, Width8To32};
 
@@ -21,7 +21,7 @@ pub(crate) const WIDE_LEN: u8 = 8;
 /// a block: IEEE 1014-1987, 2.3.6 (basic data transfer) and 2.3.7 (block transfer). `None` is a bus
 /// error: the bytes are not within the slice, or the class does not have this cycle.
 #[inline(always)]
-pub fn bytes_read(bytes: &[u8], class: Class, block: bool, at: u32, n: u8) -> Option<&[u8]>
+pub(crate) fn bytes_read(bytes: &[u8], class: Class, block: bool, at: u32, n: u8) -> Option<&[u8]>
     ensures bytes { IfSome result (λ read. Bytes (record { items = read.now })
         ≡ (step (board_of bytes.now class) (read_command block at n)).0) }
     ensures berr { IfNone result (Berr ≡ (step (board_of bytes.now class) (read_command block at n)).0) }
@@ -36,7 +36,7 @@ pub fn bytes_read(bytes: &[u8], class: Class, block: bool, at: u32, n: u8) -> Op
 /// Returns the reply to a read of `n` bytes at offset `at`, single or as one datum of a block: IEEE
 /// 1014-1987, 2.3.6 (basic data transfer) and 2.3.7 (block transfer). The reply is `Berr` if the
 /// bytes are not within the slice, or if the class does not have this cycle.
-pub fn read(bytes: &[u8], class: Class, block: bool, at: u32, n: u8) -> Reply
+pub(crate) fn read(bytes: &[u8], class: Class, block: bool, at: u32, n: u8) -> Reply
     ensures reply { result ≡ (step (board_of bytes.now class) (read_command block at n)).0 }
     ensures memory { board_of bytes.now class ≡ (step (board_of bytes.now class) (read_command block at n)).1 }
 {
@@ -51,7 +51,7 @@ pub fn read(bytes: &[u8], class: Class, block: bool, at: u32, n: u8) -> Reply
 /// the bytes are not within the slice, or if the class does not have this cycle. After `Berr`
 /// nothing has changed.
 #[inline(always)]
-pub fn write(bytes: &mut [u8], class: Class, block: bool, at: u32, new: &[u8]) -> Reply
+pub(crate) fn write(bytes: &mut [u8], class: Class, block: bool, at: u32, new: &[u8]) -> Reply
     requires short { length new.now ≤ 8 }
     ensures reply { result ≡ (step (board_of bytes.old class) (write_command block at new.now)).0 }
     ensures memory { board_of bytes.new class ≡ (step (board_of bytes.old class) (write_command block at new.now)).1 }
@@ -68,7 +68,7 @@ pub fn write(bytes: &mut [u8], class: Class, block: bool, at: u32, new: &[u8]) -
 /// IEEE 1014-1987, 2.3.8 (read-modify-write). The reply is `Berr` if the bytes are not within the
 /// slice, if the class does not have this cycle, or if an operand of `f` does not have `n` bytes.
 /// After `Berr` nothing has changed.
-pub fn modify(bytes: &mut [u8], class: Class, at: u32, n: u8, f: &Modify) -> Reply
+pub(crate) fn modify(bytes: &mut [u8], class: Class, at: u32, n: u8, f: &Modify) -> Reply
     ensures reply { result ≡ (step (board_of bytes.old class) (Steps.Modify at n f.now)).0 }
     ensures memory { board_of bytes.new class ≡ (step (board_of bytes.old class) (Steps.Modify at n f.now)).1 }
     ensures berr { result ≡ Reply.Berr → bytes.new ≡ bytes.old }

@@ -5,9 +5,9 @@ ghost use Rattle.vme_memory.specs.declared.class.Class.{Class};
 ghost use Rattle.vme_memory.specs.Classes.{is_local_len};
 ghost use Rattle.vme_memory.specs.Steps as Steps;
 ghost use Rattle.vme_memory.specs.Steps.{step};
-ghost use Rattle.vme_slave.specs.Slices.{board_of};
+ghost use Rattle.vme_ffi.specs.Slices.{board_of};
 
-use crate::bytes::{bytes_at, datum_of, fits, overwrite};
+use crate::slave::bytes::{bytes_at, datum_of, fits, overwrite};
 use vme_cycle::Modify;
 use vme_memory::Reply;
 
@@ -20,7 +20,7 @@ fn is_local_place(bytes: &[u8], at: u32, n: u8) -> bool
 
 /// Returns the reply to a read of `n` bytes at offset `at` by the local port. The reply is `Berr`
 /// if `n` is not 1, 2 or 4, or if the bytes are not within the slice.
-pub fn local_read(bytes: &[u8], at: u32, n: u8) -> Reply
+pub(crate) fn local_read(bytes: &[u8], at: u32, n: u8) -> Reply
     ensures { (class : Class) → result ≡ (step (board_of bytes.now class) (Steps.LocalRead at n)).0 }
 {
     if !is_local_place(bytes, at, n) {
@@ -31,7 +31,7 @@ pub fn local_read(bytes: &[u8], at: u32, n: u8) -> Reply
 
 /// Returns the reply to a write of some bytes at offset `at` by the local port. The reply is `Berr`
 /// if these are not 1, 2 or 4 bytes, or not within the slice. After `Berr` nothing has changed.
-pub fn local_write(bytes: &mut [u8], at: u32, new: &[u8]) -> Reply
+pub(crate) fn local_write(bytes: &mut [u8], at: u32, new: &[u8]) -> Reply
     requires short { length new.now ≤ 8 }
     ensures reply { (class : Class) → result ≡ (step (board_of bytes.old class) (Steps.LocalWrite at new.now)).0 }
     ensures memory { (class : Class) →
@@ -48,7 +48,7 @@ pub fn local_write(bytes: &mut [u8], at: u32, new: &[u8]) -> Reply
 /// Returns the reply to a read-modify-write of `n` bytes at offset `at` by the local port, which
 /// has the old bytes. The reply is `Berr` if `n` is not 1, 2 or 4, if the bytes are not within the
 /// slice, or if an operand of `f` does not have `n` bytes. After `Berr` nothing has changed.
-pub fn local_modify(bytes: &mut [u8], at: u32, n: u8, f: &Modify) -> Reply
+pub(crate) fn local_modify(bytes: &mut [u8], at: u32, n: u8, f: &Modify) -> Reply
     ensures reply { (class : Class) → result ≡ (step (board_of bytes.old class) (Steps.LocalModify at n f.now)).0 }
     ensures memory { (class : Class) →
         board_of bytes.new class ≡ (step (board_of bytes.old class) (Steps.LocalModify at n f.now)).1 }
