@@ -1,5 +1,4 @@
-//! Each use of `vme_uses`, run once, except those of `vme_port_array`, `vme_run` and
-//! `vme_outcomes`.
+//! Each use of `vme_uses`, run once, except `port_array` and `run`.
 ghost use Rattle.std.specs.Prelude.{◌==◌, true, false, if◌then◌else◌};
 
 use std::alloc::{AllocError, Global};

@@ -7,13 +7,13 @@ ghost use Rattle.vme_threads.specs.declared.report.Report.{Report};
 ghost use Rattle.vme_threads.specs.OneOrder.{IsReportOfOneOrder};
 ghost use Rattle.vme_threads.specs.ReportTexts.{texts_of_report};
 ghost use Rattle.vme_run.specs.RunTexts.{IsRunText};
-ghost use Rattle.vme_outcomes.specs.Outcomes.{outcome_of_report};
+ghost use Rattle.vme_states.specs.Outcomes.{outcome_of_report};
 ghost use Rattle.vme_outcome_listing.specs.Texts.{outcome_text};
 ghost use Rattle.vme_outcome_listing.specs.ListedTexts.{texts_in};
 ghost use Rattle.vme_outcome_listing.specs.Conditions.{ConditionView, IsKept, IsBroken};
 ghost use Rattle.vme_outcome_listing.specs.EngineTexts.{IsOutcomesText};
 
-use vme_outcomes::reports_have_a_listed_outcome;
+use vme_states::reports_have_a_listed_outcome;
 
 /// If `outcomes_engine` returns that each condition holds, no outcome that some turns give breaks
 /// one; if it returns that one fails, some turns give an outcome that breaks it.

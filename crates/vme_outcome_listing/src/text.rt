@@ -5,7 +5,7 @@ ghost use Rattle.vme_script.specs.ReplyTexts.{line_text};
 ghost use Rattle.vme_shared.specs.declared.reply.LineReply.TheVariants.{Unfinished};
 ghost use Rattle.vme_line_task.specs.Traces.{ScriptState};
 ghost use Rattle.vme_stepper.specs.Reports.{numbered_replies};
-ghost use Rattle.vme_outcomes.specs.BareStates.{bare_outcome};
+ghost use Rattle.vme_states.specs.BareStates.{bare_outcome};
 ghost use Rattle.vme_outcome_listing.specs.Texts.{slots_of, scripts_text, memories_text, outcome_text};
 
 use std::alloc::AllocError;

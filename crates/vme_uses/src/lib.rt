@@ -21,7 +21,6 @@ pub mod mailbox_laws;
 pub mod master;
 pub mod memory;
 pub mod object;
-pub mod outcomes;
 pub mod port;
 pub mod port_array;
 pub mod report;

@@ -1,7 +1,7 @@
 //! A use of `vme_states`.
 ghost use Rattle.std.specs.Prelude.{IfOk, length};
 ghost use Rattle.vme_explore.specs.Runs.{HasAll};
-ghost use Rattle.vme_outcomes.specs.BareStates.{bare_turn, initial_bare};
+ghost use Rattle.vme_states.specs.BareStates.{bare_turn, initial_bare};
 
 use std::alloc::Global;
 use vme_explore::{ExploreFault, Explored, explore};

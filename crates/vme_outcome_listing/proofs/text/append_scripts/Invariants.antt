@@ -1,5 +1,5 @@
 use Rattle.std.proofs.Common.{◌≡◌, ◌++◌, drop}
-use Rattle.vme_outcomes.specs.BareStates.{bare_outcome}
+use Rattle.vme_states.specs.BareStates.{bare_outcome}
 use Rattle.vme_outcome_listing.specs.Texts.{slots_of, scripts_text}
 use Rattle.vme_outcome_listing.proofs.text.append_scripts.Given as goal
 
