@@ -21,7 +21,7 @@ use vme_shared::{LineReply, SharedTodo};
 use vme_uses::{
     am, arbiter, bus_objects, bus_wait, config_toml, cores, cycle, decode, devices, engines,
     explore, grammar, lanes, lexer, line_task, mailbox_laws, master, memory, object, port, report,
-    run_laws, runner, script, shared, states, stepper, threads,
+    runner, script, shared, states, stepper, threads,
 };
 
 static FILE: &str = "[[board]]
@@ -146,13 +146,8 @@ fn files_and_their_runs(rt: HostRuntime) -> Result<(), Fail> {
     assert_eq!(&rt; script::slot_and_lines(&config, 0), (2, 2));
     assert!(&rt; line_task::buffer_for(alloc, &Line::Take { mailbox: 1 }).is_ok());
     assert_eq!(&rt; stepper::three_turns(alloc, &config), Ok(Status::Marked));
-    let mut sink = RoomSink::new(alloc, usize::MAX, 4096)?;
-    assert_eq!(&rt;
-        runner::two_turns(alloc, &config, &mut sink),
-        Ok(Status::Marked)
-    );
     assert!(&rt; threads::run(&rt, alloc, &config).is_ok());
-    assert!(&rt; run_laws::run_to_the_end(&rt, alloc, &config, &Open).is_ok());
+    assert!(&rt; runner::run_to_the_end(&rt, alloc, &config, &Open).is_ok());
     assert!(&rt; states::all_states(alloc, &config).is_ok());
     mailbox_laws::no_entry_no_word();
     let mut cycles = RoomSink::new(alloc, usize::MAX, 4096)?;

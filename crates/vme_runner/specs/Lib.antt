@@ -1,4 +1,5 @@
--- The definitions that the contracts of the re-exported items cite, from the crates of these items.
+-- The definitions that the contracts of the re-exported items cite, from the crates of these items, and those of the laws.
+-- Where two crates have a file of one name, one of them has another name here.
 -- What a line of a script does next, by the replies to it so far.
 pub use Rattle.vme_line_task.specs.Scripts
 pub use Rattle.vme_line_task.specs.ReadBuffers
@@ -28,9 +29,9 @@ pub use Rattle.vme_run.specs.RunTexts
 -- Laws.
 pub use Rattle.vme_mailbox_laws.specs.Names
 pub use Rattle.vme_mailbox_laws.specs.Groups
-pub use Rattle.vme_run_laws.specs.Declared
-pub use Rattle.vme_run_laws.specs.Finished
-pub use Rattle.vme_run_laws.specs.Granted
-pub use Rattle.vme_run_laws.specs.TurnCalls
-pub use Rattle.vme_run_laws.specs.Transitions
-pub use Rattle.vme_run_laws.specs.Orders as OrderLaws
+pub mod Declared
+pub mod Finished
+pub mod Granted
+pub mod TurnCalls
+pub mod Transitions
+pub mod OrderLaws

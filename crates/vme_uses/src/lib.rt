@@ -25,7 +25,6 @@ pub mod port;
 pub mod port_array;
 pub mod report;
 pub mod run;
-pub mod run_laws;
 pub mod runner;
 pub mod script;
 pub mod shared;

@@ -1,17 +1,23 @@
 //! A use of `vme_runner`.
-ghost use Rattle.std.specs.Prelude.{◌≡◌, ◌∷◌, [], false, OnOk};
-ghost use Rattle.std.specs.Io.KnownBytes.{Appends};
-ghost use Rattle.vme_runner.specs.StepReports.{run_text};
+ghost use Rattle.std.specs.Prelude.{IfOk};
+ghost use Rattle.vme_object.specs.Each.{Each};
+ghost use Rattle.vme_runner.specs.Finished.{AreFinished};
 
 use std::alloc::Global;
-use vme_io::Sink;
-use vme_runner::{RunFault, Status, run_steps};
+use std::sync::Wait;
+use std::thread::Threads;
+use vme_runner::{Gate, Report, RunFault, no_line_is_unfinished, run_threads};
 use vme_script::Config;
 
-/// Writes the report of a run by one turn of slot 1 and one of slot 2.
-pub fn two_turns<W: Sink>(alloc: Global, config: &Config, sink: &mut W) -> Result<Status, RunFault>
-    requires { W.is_marked sink.old ≡ false }
-    ensures { OnOk result (Appends (W.contents sink.old) (W.contents sink.new) (run_text config.now (1 ∷ 2 ∷ []))) }
+/// Runs the scripts on threads. By a law of runs, no line of the report is unfinished.
+pub fn run_to_the_end<R: Threads + Wait + Sync, G: Gate + Sync>(
+    rt: &R,
+    alloc: Global,
+    config: &Config,
+    gate: &G,
+) -> Result<Report, RunFault>
+    ensures { IfOk result (λ report. Each (λ who lines. AreFinished lines.items) report.lines.items) }
 {
-    run_steps(alloc, config, &[1, 2], sink)
+    no_line_is_unfinished();
+    run_threads(rt, alloc, config, gate)
 }

@@ -1,5 +1,0 @@
-use Rattle.vme_run_laws.proofs.Granted.{report_granted}
-use Rattle.vme_run_laws.proofs.thread_laws.no_line_is_denied.Goals as goal
-
-pub returns : goal.returns
-returns c = report_granted

@@ -1,5 +1,0 @@
-use Rattle.vme_run_laws.proofs.Finished.{report_finished}
-use Rattle.vme_run_laws.proofs.thread_laws.no_line_is_unfinished.Goals as goal
-
-pub returns : goal.returns
-returns c config report is = report_finished config report is

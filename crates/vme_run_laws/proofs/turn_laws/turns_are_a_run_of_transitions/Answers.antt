@@ -1,5 +1,0 @@
-use Rattle.vme_run_laws.proofs.Followed.{are_run}
-use Rattle.vme_run_laws.proofs.turn_laws.turns_are_a_run_of_transitions.Goals as goal
-
-pub returns : goal.returns
-returns c = are_run
