@@ -1,21 +1,13 @@
-//! Tests of scripts on threads: processors that wait for each other, that read blocks, that add to
-//! one word, and that share locks and mailboxes; and tests of how processors wait for the bus. They
-//! are a crate of their own so that the proofs of `vme_threads` and `vme_bus_wait` are not repeated.
+//! Tests with threads: ports and arrays of ports; scripts on threads, whose processors wait for each
+//! other, read blocks, add to one word, and share locks and mailboxes; and waits for the bus. They
+//! are a crate of their own so that the crates below are not proved twice.
 #![tactic(auto)]
 
 #[cfg(test)]
-mod blocks;
+mod flags;
 #[cfg(test)]
-mod locks;
+mod ports;
 #[cfg(test)]
-mod mailboxes;
-#[cfg(test)]
-mod meetings;
-#[cfg(test)]
-mod sums;
-#[cfg(test)]
-mod support;
+mod runs;
 #[cfg(test)]
 mod waits;
-#[cfg(test)]
-mod workers;

@@ -1,5 +1,5 @@
 //! Two processors that wait for each other, at a gate and by their scripts.
-use crate::support::{Meeting, configured, replies_of, report_of};
+use crate::runs::{Meeting, configured, replies_of, report_of};
 use std::process::Abort;
 use std::sync::atomic::Ordering;
 use std::test::Fail;

@@ -1,5 +1,5 @@
 //! A port of a board's memory, called from one thread.
-use crate::support::{add_pass, next_pass, open};
+use crate::ports::{add_pass, next_pass, open};
 use std::process::Abort;
 use vme_lanes::Datum;
 use vme_memory::{BoardCmd, ByteMemory, Class, Reply, Width8To32};

@@ -4,8 +4,8 @@ ghost use Rattle.vme_object.specs.Each.{Each};
 ghost use Rattle.vme_threads.specs.Ports.{IsBuilt, IsWorkerOf};
 ghost use Rattle.vme_threads.specs.Rans.{HasRun, IsEndOfRun};
 
-use crate::meetings::{REPLIES, TWO_BOARDS};
-use crate::support::{Meeting, replies_of};
+use crate::runs::meetings::{REPLIES, TWO_BOARDS};
+use crate::runs::{Meeting, replies_of};
 use std::alloc::{AllocError, Global};
 use std::process::Abort;
 use std::sync::Wait;

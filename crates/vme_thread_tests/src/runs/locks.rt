@@ -1,5 +1,5 @@
 //! Processors that take one lock in alternation. While one has the lock, no other writes.
-use crate::support::{Open, configured, report_of};
+use crate::runs::{Open, configured, report_of};
 use std::alloc::{AllocError, Global};
 use std::process::Abort;
 use std::test::Fail;

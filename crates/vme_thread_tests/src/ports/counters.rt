@@ -2,7 +2,7 @@
 ghost use Rattle.std.specs.Prelude.{◌≡◌, All, IfSome};
 ghost use Rattle.vme_port.specs.Ports.{IsPassOf};
 
-use crate::support::{next_pass, open};
+use crate::ports::{next_pass, open};
 use std::alloc::Global;
 use std::process::Abort;
 use std::sync::Wait;

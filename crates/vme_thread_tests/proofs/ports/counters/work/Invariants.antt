@@ -1,5 +1,5 @@
 use Rattle.vme_port.specs.Ports.{IsPassOf}
-use Rattle.vme_port_tests.proofs.counters.work.Given as goal
+use Rattle.vme_thread_tests.proofs.ports.counters.work.Given as goal
 
 -- the pass stays a pass of the port
 abbrev pub invariant-loop : goal.invariant-loop

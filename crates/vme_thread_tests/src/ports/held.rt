@@ -1,37 +1,22 @@
 //! Ports that are busy, because a command on their object waits for a release.
 ghost use Rattle.vme_port.specs.Ports.{IsPassOf};
 
-use crate::support::{next_pass, open};
-use crossbeam_utils::Backoff;
+use crate::flags::{comes, seen};
+use crate::ports::{next_pass, open};
 use std::alloc::{AllocError, Global};
 use std::process::Abort;
 use std::sync::atomic::{AtomicBool, Ordering};
 use std::sync::{Arc, Wait};
 use std::test::Fail;
 use std::thread::{Threads, join};
-use vme_object::{CounterCmd, Held, Object};
+use vme_object::{CounterCmd, Held};
 use vme_port::{Pass, Port, TryFault};
-
-/// The number of times that a thread polls a flag.
-const LOOKS: u32 = 10_000_000;
 
 /// Returns two flags: the one that a command sets when it begins, and the one that it waits for.
 fn signs(alloc: Global) -> Result<(Arc<AtomicBool>, Arc<AtomicBool>), AllocError> {
     let entered = Arc::new(alloc, AtomicBool::new(false))?;
     let release = Arc::new(alloc, AtomicBool::new(false))?;
     Ok((entered, release))
-}
-
-/// Polls a flag until it is set, at most `LOOKS` times, and returns whether it was set.
-fn seen(sign: &AtomicBool) -> bool {
-    let backoff = Backoff::new();
-    for _ in 0..LOOKS {
-        if sign.load(Ordering::SeqCst) {
-            return true;
-        }
-        backoff.snooze();
-    }
-    false
 }
 
 /// Makes a try while the command of another thread runs, and one after it.
@@ -80,18 +65,6 @@ fn a_port_is_busy_while_a_call_is_inside(rt: HostRuntime) -> Result<(), Fail> {
     Ok(())
 }
 
-/// Polls until a call waits for the object, at most `LOOKS` times, and returns whether one does.
-fn is_waited_for<O: Object>(port: &Port<O>) -> bool {
-    let backoff = Backoff::new();
-    for _ in 0..LOOKS {
-        if port.is_wanted() {
-            return true;
-        }
-        backoff.snooze();
-    }
-    false
-}
-
 /// Makes one call, and returns its reply and the pass.
 fn call_held<R: Wait>(rt: &R, port: &Port<Held>, mut pass: Pass<Held>) -> (Option<u64>, Pass<Held>)
     requires { IsPassOf port.now pass }
@@ -123,7 +96,7 @@ fn call_parks<R: Threads + Wait + Abort + Sync>(
             call_held(rt, port, pass)
         },
         move || {
-            assert!(rt; is_waited_for(port), "the second call waits");
+            assert!(rt; comes(|| port.is_wanted()), "the second call waits");
             release.store(true, Ordering::SeqCst);
         },
     );

@@ -1,5 +1,12 @@
-//! What the tests of threads share: gates, runs, and the replies of a report.
-use crossbeam_utils::Backoff;
+//! Tests of scripts on threads, and what they share: gates, runs, and the replies of a report.
+mod blocks;
+mod locks;
+mod mailboxes;
+mod meetings;
+mod sums;
+mod workers;
+
+use crate::flags::seen;
 use std::alloc::{AllocError, Global};
 use std::process::Abort;
 use std::sync::Wait;
@@ -7,21 +14,6 @@ use std::sync::atomic::{AtomicBool, Ordering};
 use std::thread::Threads;
 use vme_script::{Config, reply_line};
 use vme_threads::{Gate, Report, run_threads};
-
-/// The number of times that a processor checks a flag.
-const LOOKS: u32 = 10_000_000;
-
-/// Returns whether a flag is set, checked `LOOKS` times at most.
-pub(crate) fn seen(sign: &AtomicBool) -> bool {
-    let backoff = Backoff::new();
-    for _ in 0..LOOKS {
-        if sign.load(Ordering::SeqCst) {
-            return true;
-        }
-        backoff.snooze();
-    }
-    false
-}
 
 /// A gate that never waits.
 pub(crate) struct Open;

@@ -1,5 +1,5 @@
 use Rattle.vme_port_array.specs.Arrays.{IsPassOf}
-use Rattle.vme_port_tests.proofs.arrays.work.Given as goal
+use Rattle.vme_thread_tests.proofs.ports.arrays.work.Given as goal
 
 -- the pass stays a pass of the array
 abbrev pub invariant-loop : goal.invariant-loop

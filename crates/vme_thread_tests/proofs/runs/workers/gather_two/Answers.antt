@@ -6,7 +6,7 @@ use Rattle.vme_threads.specs.Ports.{IsBuilt}
 use Rattle.vme_threads.specs.Rans.{HasRun}
 use Rattle.vme_threads.specs.Reports.{HaveRun, CanGather}
 use Rattle.vme_threads.proofs.lemmas.Gathered.{have_none, have_more}
-use Rattle.vme_thread_tests.proofs.workers.gather_two.Goals as goal
+use Rattle.vme_thread_tests.proofs.runs.workers.gather_two.Goals as goal
 
 -- the workers are these two
 both_are : (none one two : List Ran) (first second : Ran) → none ≡ [] → one ≡ none ++ first ∷ [] → two ≡ one ++ second ∷ [] → two ≡ first ∷ second ∷ []

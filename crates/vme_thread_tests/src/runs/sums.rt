@@ -1,5 +1,5 @@
 //! Processors that add to one word: four of them, and one in each of the 21 slots.
-use crate::support::{Open, configured, report_of};
+use crate::runs::{Open, configured, report_of};
 use std::alloc::{AllocError, Global};
 use std::process::Abort;
 use std::sync::Wait;

@@ -1,6 +1,12 @@
-//! Functions for the tests of ports: they open a port, and remove and add passes.
+//! Tests of ports and of arrays of ports, on one thread and on several; and what they share: they
+//! open a port, and remove and add passes.
 ghost use Rattle.std.specs.Prelude.{◌≡◌, All};
 ghost use Rattle.vme_port.specs.Ports.{IsPassOf, passes_of};
+
+mod arrays;
+mod boards;
+mod counters;
+mod held;
 
 use std::alloc::Global;
 use std::process::Abort;
@@ -8,7 +14,7 @@ use vme_object::Object;
 use vme_port::{Pass, Port, PortFault};
 
 /// Opens a port of an object with `count` passes, and panics if that fails.
-pub fn open<O: Object + Drop>(
+pub(crate) fn open<O: Object + Drop>(
     rt: &impl Abort,
     alloc: Global,
     object: O,
@@ -25,7 +31,11 @@ pub fn open<O: Object + Drop>(
 }
 
 /// Removes and returns the last pass.
-pub fn next_pass<O: Object>(rt: &impl Abort, port: &Port<O>, passes: &mut Vec<Pass<O>>) -> Pass<O>
+pub(crate) fn next_pass<O: Object>(
+    rt: &impl Abort,
+    port: &Port<O>,
+    passes: &mut Vec<Pass<O>>,
+) -> Pass<O>
     requires { All (IsPassOf port.now) passes.old.items }
     ensures pass { IsPassOf port.now result }
     ensures passes { All (IsPassOf port.now) passes.new.items }
@@ -37,7 +47,7 @@ pub fn next_pass<O: Object>(rt: &impl Abort, port: &Port<O>, passes: &mut Vec<Pa
 }
 
 /// Appends a pass to `passes`, and panics if that fails.
-pub fn add_pass<O: Object>(
+pub(crate) fn add_pass<O: Object>(
     rt: &impl Abort,
     port: &Port<O>,
     passes: &mut Vec<Pass<O>>,

@@ -1,5 +1,5 @@
 //! Two processors put words into one mailbox, and a third takes them.
-use crate::support::{Open, configured, report_of};
+use crate::runs::{Open, configured, report_of};
 use std::alloc::{AllocError, Global};
 use std::process::Abort;
 use std::sync::Wait;

@@ -1,6 +1,6 @@
 //! Two processors that write and read blocks of each other's boards. Each block is longer than the
 //! inline capacity of a `BlockBuffer`.
-use crate::support::{Meeting, configured, report_of};
+use crate::runs::{Meeting, configured, report_of};
 use std::process::Abort;
 use std::sync::atomic::Ordering;
 use std::test::Fail;

@@ -1,6 +1,6 @@
 use Rattle.std.proofs.Common.{◌≡◌, ℕ, length, subst, arith}
 use Rattle.vme_threads.specs.Ports.{IsWorkerOf}
-use Rattle.vme_thread_tests.proofs.workers.two_workers_meet.Goals as goal
+use Rattle.vme_thread_tests.proofs.runs.workers.two_workers_meet.Goals as goal
 
 -- the second worker is the last of two
 pub run_two-first-requires-clause-second : goal.run_two-first-requires-clause-second
