@@ -6,7 +6,7 @@ use clap::ArgMatches;
 use std::io;
 use vme_engines::ProgramFault;
 use vme_io::{Io, SliceSource};
-use vme_timing_page::{EventRange, page_engine};
+use vme_page::{EventRange, page_engine};
 
 /// Writes the page of the run of the file that the words name.
 pub(crate) fn paged(rt: &HostRuntime, words: &ArgMatches<'_>) -> Result<Status, Fault> {

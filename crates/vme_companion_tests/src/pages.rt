@@ -7,7 +7,7 @@ use std::test::Fail;
 use vme_engines::ProgramFault;
 use vme_io::{RoomSink, SliceSource};
 use vme_script::ConfigFault;
-use vme_timing_page::{EventRange, page_engine};
+use vme_page::{EventRange, page_engine};
 
 /// A processor adds to a word of its own board over the bus.
 static ADDING: &str = "rounds = 3

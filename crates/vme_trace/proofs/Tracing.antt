@@ -10,10 +10,10 @@ use Rattle.vme_script.specs.Configurations.{Configuration}
 use Rattle.vme_stepper.specs.Turns.{board_in_slot, initial_state, state_after}
 use Rattle.vme_stepper.specs.Schedules.{file_turns}
 use Rattle.vme_stepper.specs.Steppers.{StepperView, stepper_of, stepper_turn_at}
-use Rattle.vme_observation.specs.Observations.{observed_at, observed_from, observations}
-use Rattle.vme_observation.specs.declared.observation.Observation.{Observation}
-use Rattle.vme_vcd.specs.Events.{events_text}
-use Rattle.vme_vcd.specs.Headers.{header_text, vcd_text}
+use Rattle.vme_trace.specs.Observations.{observed_at, observed_from, observations}
+use Rattle.vme_trace.specs.declared.observation.Observation.{Observation}
+use Rattle.vme_trace.specs.Events.{events_text}
+use Rattle.vme_trace.specs.Headers.{header_text, vcd_text}
 use Rattle.vme_engines.specs.declared.fault.ProgramFault.{ProgramFault}
 use Rattle.vme_engines.specs.Files.{Configures}
 use Rattle.vme_engines.specs.Faults.{WritesPrefix}

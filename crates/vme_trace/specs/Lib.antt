@@ -1,2 +1,12 @@
+pub mod Activities
+pub mod Grants
+pub mod Observations
+pub mod Changes
+pub mod Handshakes
+pub mod Bus
+pub mod Ports
+pub mod Slots
+pub mod Events
+pub mod Headers
 pub mod Turns
 pub mod Traces

@@ -3,10 +3,10 @@ use Rattle.std.specs.Prelude.{ℕ, ◌≡◌, ◌+◌, List, [], Option, Some, N
 use Rattle.vme_script.specs.Configurations.{Configuration}
 use Rattle.vme_stepper.specs.Schedules.{file_turns}
 use Rattle.vme_engines.specs.Files.{Configures}
-use Rattle.vme_observation.specs.declared.observation.Observation.{Observation}
-use Rattle.vme_vcd.specs.Changes.{event_text}
-use Rattle.vme_vcd.specs.Events.{event_changes}
-use Rattle.vme_vcd.specs.Headers.{vcd_text}
+use Rattle.vme_trace.specs.declared.observation.Observation.{Observation}
+use Rattle.vme_trace.specs.Changes.{event_text}
+use Rattle.vme_trace.specs.Events.{event_changes}
+use Rattle.vme_trace.specs.Headers.{vcd_text}
 
 -- the text of a turn after n events, on a backplane with so many boards: nothing if it does nothing
 abbrev pub turn_text : ℕ → ℕ → Option Observation → List ℕ

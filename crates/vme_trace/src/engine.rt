@@ -6,7 +6,7 @@ ghost use Rattle.vme_script.specs.Configurations.{Configuration};
 ghost use Rattle.vme_engines.specs.Faults.{IsStepFault, ReadsWithin, WritesPrefix, is_read_failure, is_write_failure};
 ghost use Rattle.vme_engines.specs.Files.{Configures, IsRefusedAs};
 ghost use Rattle.vme_stepper.specs.Schedules.{file_turns};
-ghost use Rattle.vme_vcd.specs.Headers.{vcd_text};
+ghost use Rattle.vme_trace.specs.Headers.{vcd_text};
 ghost use Rattle.vme_trace.specs.Traces.{IsTraceText};
 
 use crate::trace::write_trace;

@@ -1,12 +1,18 @@
-//! The run of a configuration on one thread, written as a value change dump.
+//! The run of a configuration on one thread, turn by turn: what each turn did on the bus
+//! (ANSI/IEEE Std 1014-1987, chapters 2 and 3) or on a local port (`observation`), the text of a value
+//! change dump of it (`dump`; VCD, IEEE 1364-2005, clause 18), and the dump of a whole run.
 //!
 //! The text is written while the run goes on, in large pieces; no list of events is kept.
 #![tactic(auto)]
 
+mod dump;
 mod engine;
+mod observation;
 mod trace;
 mod turns;
 
+pub use dump::{Change, Code, Value, print_end, print_event, print_header, push_event};
 pub use engine::trace_engine;
+pub use observation::{Activity, Grant, Observation, TransferredDatum, observe_turn};
 pub use trace::write_trace;
 pub use turns::FileTurns;

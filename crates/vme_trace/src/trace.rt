@@ -7,20 +7,20 @@ ghost use Rattle.vme_script.specs.Lawful.{IsLawful};
 ghost use Rattle.vme_stepper.specs.Turns.{board_in_slot, initial_state};
 ghost use Rattle.vme_stepper.specs.Schedules.{file_turns};
 ghost use Rattle.vme_stepper.specs.Steppers.{stepper_of, stepper_turn_at, IsStepperOf, StepsWithin};
-ghost use Rattle.vme_observation.specs.Observations.{observed_at, observations};
-ghost use Rattle.vme_vcd.specs.Changes.{event_text};
-ghost use Rattle.vme_vcd.specs.Events.{event_changes, events_text};
-ghost use Rattle.vme_vcd.specs.Headers.{vcd_text};
+ghost use Rattle.vme_trace.specs.Observations.{observed_at, observations};
+ghost use Rattle.vme_trace.specs.Changes.{event_text};
+ghost use Rattle.vme_trace.specs.Events.{event_changes, events_text};
+ghost use Rattle.vme_trace.specs.Headers.{vcd_text};
 ghost use Rattle.vme_trace.specs.Traces.{turn_text, turn_count};
 
+use crate::dump::{Change, print_end, print_event, print_header, push_event};
+use crate::observation::{Observation, observe_turn};
 use crate::turns::FileTurns;
 use std::alloc::Global;
 use vme_io::{Sink, WRITE_SIZE, flush_if_full, write_all};
-use vme_observation::{Observation, observe_turn};
 use vme_report::RunFault;
 use vme_script::Config;
 use vme_stepper::{Stepper, board_in_slot};
-use vme_vcd::{Change, print_end, print_event, print_header, push_event};
 
 /// Runs the scripts of a configuration by the turns of its file, and writes what the lines of the
 /// bus and of the local ports show.

@@ -4,9 +4,9 @@ use Rattle.std.specs.List.{sum_by}
 use Rattle.vme_core.specs.declared.event.Target.{Target}
 use Rattle.vme_core.specs.declared.event.Target.TheVariants as at
 use Rattle.vme_core.specs.Runs.{Machine}
-use Rattle.vme_observation.specs.declared.activity.Activity.{Activity}
-use Rattle.vme_observation.specs.declared.activity.Activity.TheVariants.{Requests, Polls, Releases, Transfers, Local}
-use Rattle.vme_observation.specs.declared.observation.Observation.{Observation}
+use Rattle.vme_trace.specs.declared.observation.activity.Activity.{Activity}
+use Rattle.vme_trace.specs.declared.observation.activity.Activity.TheVariants.{Requests, Polls, Releases, Transfers, Local}
+use Rattle.vme_trace.specs.declared.observation.Observation.{Observation}
 
 -- whether what the processor of a board is shown to do is on an object: on the arbiter, on the board that a transfer
 -- selects, or on its own board by the local port

@@ -1,4 +1,2 @@
-pub mod Steps
-pub mod Counts
-pub mod Values
-pub mod Transfers
+pub mod Shown
+pub mod Events

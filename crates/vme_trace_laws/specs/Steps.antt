@@ -8,10 +8,10 @@ use Rattle.vme_core.specs.Calls.{Call, OnBoard, OnBus, machine_step}
 use Rattle.vme_script.specs.Configurations.{Configuration}
 use Rattle.vme_line_task.specs.Scripts.{slot_at, level_at}
 use Rattle.vme_line_task.specs.Events.{IsCallBelow}
-use Rattle.vme_observation.specs.declared.activity.Activity.{Activity}
-use Rattle.vme_observation.specs.declared.activity.Activity.TheVariants.{Requests, Polls, Releases, Transfers, Local, Other}
-use Rattle.vme_observation.specs.declared.observation.Observation.{Observation}
-use Rattle.vme_observation.specs.Grants.{grant_of}
+use Rattle.vme_trace.specs.declared.observation.activity.Activity.{Activity}
+use Rattle.vme_trace.specs.declared.observation.activity.Activity.TheVariants.{Requests, Polls, Releases, Transfers, Local, Other}
+use Rattle.vme_trace.specs.declared.observation.Observation.{Observation}
+use Rattle.vme_trace.specs.Grants.{grant_of}
 
 -- what the processor of a board with this index, slot and level is shown to do is its call: a command of its slot to the
 -- arbiter, a command to the selected board, or its command to its own local port

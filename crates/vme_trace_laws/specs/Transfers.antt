@@ -1,8 +1,8 @@
 -- The transfer that is open after some events: it has begun, and has not ended.
 use Rattle.std.specs.Prelude.{ℕ, Bool, if◌then◌else◌, List, [], ◌∷◌, Option, Some, None, is_some}
-use Rattle.vme_observation.specs.declared.observation.Observation.{Observation}
-use Rattle.vme_vcd.specs.Handshakes.{first_handshake}
-use Rattle.vme_vcd.specs.Slots.{has_ended}
+use Rattle.vme_trace.specs.declared.observation.Observation.{Observation}
+use Rattle.vme_trace.specs.Handshakes.{first_handshake}
+use Rattle.vme_trace.specs.Slots.{has_ended}
 
 -- whether an event has a handshake
 abbrev pub has_handshake : Observation → Bool

@@ -1,12 +1,12 @@
 -- What a viewer shows of a run: the value of each variable after some events, and within the event that follows them.
 use Rattle.std.specs.Prelude.{ℕ, ◌+◌, List, [], ◌∷◌, length, Option, Some, None}
-use Rattle.vme_observation.specs.declared.observation.Observation.{Observation}
-use Rattle.vme_vcd.specs.declared.change.Code.{Code}
-use Rattle.vme_vcd.specs.declared.change.Value.{Value}
-use Rattle.vme_vcd.specs.declared.change.Value.TheVariants.{Released, Number}
-use Rattle.vme_vcd.specs.Changes.{bus_code, slot_code}
-use Rattle.vme_vcd.specs.Events.{event_changes}
-use Rattle.vme_wave_laws.specs.Shown.{value_at}
+use Rattle.vme_trace.specs.declared.observation.Observation.{Observation}
+use Rattle.vme_trace.specs.declared.dump.change.Code.{Code}
+use Rattle.vme_trace.specs.declared.dump.change.Value.{Value}
+use Rattle.vme_trace.specs.declared.dump.change.Value.TheVariants.{Released, Number}
+use Rattle.vme_trace.specs.Changes.{bus_code, slot_code}
+use Rattle.vme_trace.specs.Events.{event_changes}
+use Rattle.vme_trace_laws.specs.Shown.{value_at}
 
 -- the last edge of an event
 abbrev pub last_edge : ℕ

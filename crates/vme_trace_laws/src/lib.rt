@@ -1,9 +1,16 @@
-//! Laws of the waveforms of a whole run: each event is shown once, one slot drives BBSY*, and
-//! AS* is low in each transfer.
+//! Laws of waveforms: what a viewer shows of a handshake and of an event follows the rules of the bus;
+//! and in a whole run each event is shown once, one slot drives BBSY*, and AS* is low in each transfer.
 #![tactic(auto)]
 
-mod laws;
+mod events;
+mod handshakes;
+mod runs;
 mod strobes;
 
-pub use laws::{each_event_is_shown_once, one_slot_drives_busy, runs_end_at_rest};
+pub use events::{events_end_at_rest, events_keep_the_rules, events_show_their_data};
+pub use handshakes::{
+    answers_follow_the_strobes, data_stand_under_the_answer,
+    strobes_are_low_under_the_address_strobe, the_address_stands_under_the_answer,
+};
+pub use runs::{each_event_is_shown_once, one_slot_drives_busy, runs_end_at_rest};
 pub use strobes::the_address_strobe_stays_low_in_a_transfer;

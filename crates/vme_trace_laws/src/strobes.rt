@@ -2,18 +2,18 @@
 ghost use Rattle.std.specs.Prelude.{◌≡◌, ◌∷◌, ◌++◌, ℕ, List, [], Some, None, length, is_none, if◌then◌else◌};
 ghost use Rattle.vme_script.specs.Configurations.{Configuration};
 ghost use Rattle.vme_script.specs.Lawful.{IsLawful};
-ghost use Rattle.vme_observation.specs.declared.observation.Observation.{Observation};
-ghost use Rattle.vme_observation.specs.Observations.{observations};
-ghost use Rattle.vme_vcd.specs.declared.change.Code.{Code};
-ghost use Rattle.vme_vcd.specs.declared.change.Value.TheVariants.{Low, High};
-ghost use Rattle.vme_vcd.specs.declared.handshake.Handshake.{Handshake};
-ghost use Rattle.vme_vcd.specs.Changes.{level_of};
-ghost use Rattle.vme_vcd.specs.Handshakes.{first_handshake};
-ghost use Rattle.vme_wave_laws.specs.Shown.{address_strobe, address_strobe_before, IsStrobe};
+ghost use Rattle.vme_trace.specs.declared.observation.Observation.{Observation};
+ghost use Rattle.vme_trace.specs.Observations.{observations};
+ghost use Rattle.vme_trace.specs.declared.dump.change.Code.{Code};
+ghost use Rattle.vme_trace.specs.declared.dump.change.Value.TheVariants.{Low, High};
+ghost use Rattle.vme_trace.specs.declared.dump.handshake.Handshake.{Handshake};
+ghost use Rattle.vme_trace.specs.Changes.{level_of};
+ghost use Rattle.vme_trace.specs.Handshakes.{first_handshake};
+ghost use Rattle.vme_trace_laws.specs.Shown.{address_strobe, address_strobe_before, IsStrobe};
 ghost use Rattle.vme_trace_laws.specs.Transfers.{open_transfer, transfer_board};
 ghost use Rattle.vme_trace_laws.specs.Values.{busy_line, value_after_run, value_in_run};
 
-use vme_wave_laws::{events_end_at_rest, events_keep_the_rules};
+use crate::events::{events_end_at_rest, events_keep_the_rules};
 
 /// States that AS* is low while a transfer is open, from its first event to its last and over all
 /// events between them, and high while none is (IEEE 1014-1987, 2.4). So AS* before each event is as

@@ -6,8 +6,8 @@ use Rattle.vme_stepper.specs.Turns.{board_in_slot}
 use Rattle.vme_stepper.specs.Schedules.{file_turns}
 use Rattle.vme_stepper.specs.Steppers.{stepper_of, stepper_turn_at}
 use Rattle.vme_stepper.proofs.lemmas.Runs.{turn_more, few_steps, file_few}
-use Rattle.vme_observation.specs.Observations.{observed_at, observed_from, observations}
-use Rattle.vme_vcd.specs.Events.{events_text}
+use Rattle.vme_trace.specs.Observations.{observed_at, observed_from, observations}
+use Rattle.vme_trace.specs.Events.{events_text}
 use Rattle.vme_trace.specs.Traces.{turn_text, turn_count}
 use Rattle.vme_trace.specs.Turns.{turns_left}
 use Rattle.vme_trace.proofs.Tracing.{turn_next, count_grows, left_opens, so_far_opens, so_far_stops, opens_state}

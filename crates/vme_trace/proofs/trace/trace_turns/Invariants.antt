@@ -3,8 +3,8 @@ use Rattle.vme_io.proofs.lemmas.Gathering.{SoFar}
 use Rattle.vme_stepper.specs.Turns.{state_after}
 use Rattle.vme_stepper.specs.Schedules.{file_turns}
 use Rattle.vme_stepper.specs.Steppers.{stepper_of, IsStepperOf}
-use Rattle.vme_observation.specs.Observations.{observed_from, observations}
-use Rattle.vme_vcd.specs.Events.{events_text}
+use Rattle.vme_trace.specs.Observations.{observed_from, observations}
+use Rattle.vme_trace.specs.Events.{events_text}
 use Rattle.vme_trace.specs.Turns.{turns_left}
 use Rattle.vme_trace.proofs.trace.trace_turns.Given as goal
 

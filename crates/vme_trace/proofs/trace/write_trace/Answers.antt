@@ -2,7 +2,7 @@ use Rattle.std.proofs.Common.{◌≡◌, ℕ, List, [], subst, rules}
 use Rattle.vme_io.specs.Prefixes.{AppendsPrefix}
 use Rattle.vme_io.proofs.lemmas.Gathering.{so_far_written, so_far_unwritten}
 use Rattle.vme_stepper.specs.Schedules.{file_turns}
-use Rattle.vme_vcd.specs.Headers.{vcd_text}
+use Rattle.vme_trace.specs.Headers.{vcd_text}
 use Rattle.vme_trace.proofs.Tracing.{opens_text, so_far_over}
 use Rattle.vme_trace.proofs.trace.write_trace.Goals as goal
 

@@ -1,6 +1,0 @@
-use Rattle.std.proofs.Common.{◌∙◌}
-use Rattle.vme_observation.proofs.Pending.{on_level}
-use Rattle.vme_observation.proofs.grant.pends_on.Goals as goal
-
-pub returns : goal.returns
-returns c = c.is_any_on_level.ensures ∙ on_level c.args.level c.args.state.now.levels

@@ -1,3 +1,0 @@
-pub mod Activities
-pub mod Grants
-pub mod Observations

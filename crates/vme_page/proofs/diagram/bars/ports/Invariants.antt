@@ -1,0 +1,12 @@
+use Rattle.std.proofs.Common.{◌≡◌, ◌-◌, ◌≤◌, ◌++◌, length}
+use Rattle.std.specs.List.{flat_map, range_with_len}
+use Rattle.vme_page.specs.Layouts.{port_of}
+use Rattle.vme_page.proofs.diagram.bars.ports.Given as goal
+
+-- the ports so far, with those of the boards that are left, are all ports
+abbrev pub invariant-loop-board : goal.invariant-loop-board
+invariant-loop-board l = record {
+  all : l.ports.items ++ flat_map (port_of l.config) (range_with_len l.board (length l.config.boards - l.board))
+      ≡ flat_map (port_of l.fn.config) (range_with_len 0 (length l.fn.config.boards));
+  few : length l.ports.items ≤ l.board;
+}

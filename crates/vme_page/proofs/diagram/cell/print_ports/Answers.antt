@@ -1,0 +1,15 @@
+use Rattle.std.proofs.Common.{◌<◌, ◌+◌, ◌-◌, ◌++◌, length, sym, ap, ◌∙◌, arith, append_assoc}
+use Rattle.std.specs.List.{flat_map, range_with_len}
+use Rattle.vme_page.specs.Cells.{port_at}
+use Rattle.vme_page.proofs.Ranges.{range_next}
+use Rattle.vme_page.proofs.diagram.cell.print_ports.Goals as goal
+
+pub loop-i-preserved : goal.loop-i-preserved
+loop-i-preserved c =
+    let count = length c.args.layout.now.ports in
+    let f = port_at c.args.layout.now c.args.window c.args.changes.now in
+    let within : c.loop-i.i < count = omega (arith, c.loop-i-test.true, c.port_count-i-end.ensures.value) in
+    let rest = flat_map f (range_with_len (c.loop-i.i + 1) (count - (c.loop-i.i + 1))) in
+    ap (λ text. text ++ rest) c.in_ok-print_port_at.ensures
+    ∙ append_assoc c.loop-i.text.items (f c.loop-i.i) rest
+    ∙ ap (λ left. c.loop-i.text.items ++ left) (sym (range_next f c.loop-i.i count within)) ∙ c.loop-i.invariant

@@ -1,0 +1,151 @@
+//! The diagrams of a run, turn by turn.
+ghost use Rattle.std.specs.Prelude.{◌≡◌, ◌≤◌, ◌<◌, ◌-◌, ◌^◌, ◌⊎◌, ◌∷◌, [], false, length, IfErr, OnOk, OnErr, MatchOption};
+ghost use Rattle.std.specs.Io.KnownBytes.{Appends};
+ghost use Rattle.vme_io.specs.Prefixes.{AppendsPrefix, GathersOrStops};
+ghost use Rattle.vme_report.specs.Ends.{IsReportFault, is_write_end};
+ghost use Rattle.vme_script.specs.Lawful.{IsLawful};
+ghost use Rattle.vme_stepper.specs.Turns.{board_in_slot, initial_state};
+ghost use Rattle.vme_stepper.specs.Steppers.{stepper_of, stepper_turn_at, IsStepperOf, StepsWithin};
+ghost use Rattle.vme_trace.specs.Observations.{observed_at};
+ghost use Rattle.vme_trace.specs.Turns.{turns_left, IsTurnsOf};
+ghost use Rattle.vme_page.specs.Drawings.{opening_drawing, shown_text, drawing_after, turn_text, turn_after};
+ghost use Rattle.vme_page.specs.Pages.{run_diagrams};
+
+use crate::drawing::Drawing;
+use crate::range::EventRange;
+use std::alloc::Global;
+use vme_io::{Sink, WRITE_SIZE, flush_if_full, write_all};
+use vme_report::RunFault;
+use vme_script::Config;
+use vme_stepper::{Stepper, board_in_slot};
+use vme_trace::{FileTurns, Observation, observe_turn};
+
+/// Writes the diagrams of some events, a note if others are not shown, and the begin of the report.
+pub(crate) fn write_diagrams<W: Sink>(
+    alloc: Global,
+    range: EventRange,
+    config: &Config,
+    writer: &mut W,
+) -> Result<(), RunFault>
+    requires { W.is_marked writer.old ≡ false }
+    ensures text { OnOk result (Appends (W.contents writer.old) (W.contents writer.new)
+        (run_diagrams config.now range)) }
+    ensures prefix { OnErr result (AppendsPrefix (W.contents writer.old) (W.contents writer.new)
+        (run_diagrams config.now range)) }
+    ensures write { W.is_marked writer.new ≡ is_write_end result }
+    ensures faults { IfErr result IsReportFault }
+{
+    let Ok(mut stepper) = Stepper::new(alloc, config) else {
+        return Err(RunFault::Memory);
+    };
+    let mut drawing = Drawing::new(alloc, config)?;
+    let mut text = Vec::with_capacity(alloc, WRITE_SIZE)?;
+    draw_turns(config, range, &mut stepper, &mut drawing, &mut text, writer)?;
+    write_all(writer, text.as_slice())?;
+    Ok(())
+}
+
+/// Gathers the diagrams of the turns of the file, and what follows them. It leaves the run after the
+/// first event past those that are shown.
+fn draw_turns<'a, W: Sink>(
+    config: &'a Config,
+    range: EventRange,
+    stepper: &mut Stepper<'a>,
+    drawing: &mut Drawing,
+    text: &mut Vec<u8>,
+    writer: &mut W,
+) -> Result<(), RunFault>
+    requires drawing { drawing.old ≡ opening_drawing config.now }
+    requires lawful { IsLawful config.now }
+    requires opening { stepper.old ≡ stepper_of config.now (initial_state config.now) }
+    requires stepper { IsStepperOf config.now stepper.old }
+    requires unmarked { W.is_marked writer.old ≡ false }
+    ensures gathers { GathersOrStops result (W.contents writer.old) (W.contents writer.new)
+        text.old.items text.new.items (run_diagrams config.now range) }
+    ensures write { W.is_marked writer.new ≡ is_write_end result }
+    ensures faults { IfErr result IsReportFault }
+{
+    let mut turns = FileTurns::new(config);
+    while let Some(slot) = next_turn(&mut turns, config, range, drawing.count()) {
+        draw_turn(config, slot, range, drawing, stepper, text, writer)?;
+    }
+    drawing.print_ending(text, range)?;
+    Ok(())
+}
+
+/// Returns the slot of the next turn, or `None` if none is left, or after an event past those that
+/// are shown.
+fn next_turn(turns: &mut FileTurns, config: &Config, range: EventRange, count: u32) -> Option<u16>
+    requires { IsTurnsOf config.now turns.old }
+    ensures next { MatchOption result
+        ((turns_left config.now turns.old ≡ []) ⊎ (range.last < count))
+        (λ slot. (turns_left config.now turns.old ≡ slot ∷ turns_left config.now turns.new)
+        × (count ≤ range.last)) }
+    ensures board { IsTurnsOf config.now turns.new }
+{
+    if range.last < count {
+        return None;
+    }
+    match turns.next(config) {
+        Some(slot) => Some(slot),
+        None => None,
+    }
+}
+
+/// Performs a turn, and gathers its event if it is shown.
+fn draw_turn<'a, W: Sink>(
+    config: &'a Config,
+    slot: u16,
+    range: EventRange,
+    drawing: &mut Drawing,
+    stepper: &mut Stepper<'a>,
+    text: &mut Vec<u8>,
+    writer: &mut W,
+) -> Result<(), RunFault>
+    requires few { drawing.old.count < 2 ^ 32 - 1 }
+    requires stepper { IsStepperOf config.now stepper.old }
+    requires capacity { StepsWithin (2 ^ 64 - 2) stepper.old.machine }
+    requires unmarked { W.is_marked writer.old ≡ false }
+    ensures sound { OnOk result (IsStepperOf config.now stepper.new) }
+    ensures turn { OnOk result
+        (stepper.new ≡ stepper_turn_at config.now stepper.old (board_in_slot config.now slot)) }
+    ensures drawn { OnOk result (drawing.new ≡ turn_after config.now range drawing.old
+        (observed_at config.now stepper.old (board_in_slot config.now slot))) }
+    ensures gathers { GathersOrStops result (W.contents writer.old) (W.contents writer.new)
+        text.old.items text.new.items (turn_text config.now range drawing.old
+        (observed_at config.now stepper.old (board_in_slot config.now slot))) }
+    ensures write { W.is_marked writer.new ≡ is_write_end result }
+    ensures faults { IfErr result IsReportFault }
+{
+    let Some(board) = board_in_slot(config, slot) else {
+        return Ok(());
+    };
+    match observe_turn(stepper, config, board) {
+        Some(event) => gather_event(config, &event, range, drawing, text, writer),
+        None => Ok(()),
+    }
+}
+
+/// Gathers an event if it is shown.
+#[tactic(auto, using(vme_io::proofs::lemmas::Gathering::printed_gathers, vme_io::proofs::lemmas::Gathering::printed_prefix, vme_io::proofs::lemmas::Gathering::nothing_prefix))]
+fn gather_event<W: Sink>(
+    config: &Config,
+    event: &Observation,
+    range: EventRange,
+    drawing: &mut Drawing,
+    text: &mut Vec<u8>,
+    writer: &mut W,
+) -> Result<(), RunFault>
+    requires few { drawing.old.count < 2 ^ 32 - 1 }
+    requires unmarked { W.is_marked writer.old ≡ false }
+    ensures drawn { OnOk result
+        (drawing.new ≡ drawing_after config.now range drawing.old event.now) }
+    ensures gathers { GathersOrStops result (W.contents writer.old) (W.contents writer.new)
+        text.old.items text.new.items (shown_text config.now range drawing.old event.now) }
+    ensures write { W.is_marked writer.new ≡ is_write_end result }
+    ensures faults { IfErr result IsReportFault }
+{
+    drawing.draw(text, config, range, event)?;
+    flush_if_full(text, writer)?;
+    Ok(())
+}

@@ -1,0 +1,97 @@
+//! The diagrams of a page, event by event.
+ghost use Rattle.std.specs.Prelude.{◌≡◌, ◌<◌, ◌-◌, ◌^◌, ◌++◌, IfOk, OnOk};
+ghost use Rattle.vme_page.specs.Drawings.{opening_drawing, is_left_out, shown_text, next_diagram, drawing_after, ending};
+
+use crate::diagram::Diagram;
+use crate::note::{print_note, print_report_begin};
+use crate::range::EventRange;
+use std::alloc::{AllocError, Global};
+use std::marker::Model;
+use vme_script::Config;
+use vme_trace::{Change, Observation, push_event};
+
+/// The diagrams of a page so far.
+#[derive(Drop)]
+pub(crate) struct Drawing {
+    diagram: Diagram,
+    count: u32,
+    changes: Vec<Change>,
+}
+
+impl Model for Drawing {
+    ghost use Rattle.vme_page.specs.Drawings.{DrawingView};
+
+    ghost Value = { DrawingView };
+
+    ghost view = { λ d. record { diagram = d.diagram; count = d.count } };
+}
+
+impl Drawing {
+    /// Returns the drawing before the first event.
+    pub(crate) fn new(alloc: Global, config: &Config) -> Result<Drawing, AllocError>
+        ensures { IfOk result (λ drawing. drawing ≡ opening_drawing config.now) }
+    {
+        Ok(Drawing {
+            diagram: Diagram::new(alloc, config)?,
+            count: 0,
+            changes: Vec::new(alloc),
+        })
+    }
+
+    /// Returns the number of events so far.
+    pub(crate) fn count(&self) -> u32
+        ensures { result ≡ self.now.count }
+    {
+        self.count
+    }
+
+    /// Counts an event, and draws it if it is shown.
+    #[tactic(auto, unfolding(crate::specs::Drawings::shown_text, crate::specs::Drawings::drawing_after))]
+    pub(crate) fn draw(
+        &mut self,
+        text: &mut Vec<u8>,
+        config: &Config,
+        range: EventRange,
+        event: &Observation,
+    ) -> Result<(), AllocError>
+        requires { self.old.count < 2 ^ 32 - 1 }
+        ensures text { OnOk result (text.new.items
+            ≡ text.old.items ++ shown_text config.now range self.old event.now) }
+        ensures after { OnOk result
+            (self.new ≡ drawing_after config.now range self.old event.now) }
+    {
+        let number = self.count + 1;
+        self.changes.clear();
+        push_event(&mut self.changes, config.boards(), number, event)?;
+        self.count = number;
+        let changes = self.changes.as_slice();
+        if is_left_out(range, number) {
+            self.diagram.pass_event(event, changes);
+            return Ok(());
+        }
+        self.diagram
+            .print_event(text, config, number, event, changes)
+    }
+
+    /// Appends what follows the diagrams: the end of the open strip, a note, and the begin of the
+    /// report.
+    #[tactic(auto, unfolding(crate::specs::Drawings::ending))]
+    pub(crate) fn print_ending(
+        &mut self,
+        text: &mut Vec<u8>,
+        range: EventRange,
+    ) -> Result<(), AllocError>
+        ensures { OnOk result (text.new.items ≡ text.old.items ++ ending range self.old) }
+    {
+        self.diagram.print_end(text)?;
+        print_note(text, range, self.count)?;
+        print_report_begin(text)
+    }
+}
+
+/// Returns whether an event is not shown.
+fn is_left_out(range: EventRange, number: u32) -> bool
+    ensures { result ≡ is_left_out range number }
+{
+    number < range.first || range.last < number
+}

@@ -1,0 +1,18 @@
+//! The run of a configuration on one thread as a page of HTML: timing diagrams of some of its events,
+//! and its report.
+//!
+//! The text is written while the run goes on, in large pieces; no list of events is kept.
+#![tactic(auto)]
+
+mod diagram;
+mod diagrams;
+mod drawing;
+mod engine;
+mod head;
+mod note;
+mod page;
+mod range;
+
+pub use engine::page_engine;
+pub use page::write_page;
+pub use range::EventRange;

@@ -1,0 +1,231 @@
+//! The lines of the bus in the handshakes of an event.
+ghost use Rattle.std.specs.Prelude.{◌≡◌, ◌<◌, ◌++◌, OnOk};
+ghost use Rattle.vme_trace.specs.Bus.{is_wide, drive_edge, upper_number, address_strobe_changes, address_changes, level_changes, data_strobe_changes, data_changes, answer_changes, handshake_changes, some_handshake_changes, address_level_changes, byte_on, lower_lanes, upper_lanes};
+
+use crate::dump::change::{Change, Code, Value, push_if};
+use crate::dump::handshake::Handshake;
+use std::alloc::AllocError;
+use vme_cycle::Signals;
+
+/// Appends the changes of a handshake, if there is one.
+pub(crate) fn push_some_handshake(
+    changes: &mut Vec<Change>,
+    shake: Option<Handshake>,
+) -> Result<(), AllocError>
+    ensures { OnOk result (changes.new.items ≡ changes.old.items ++ some_handshake_changes shake) }
+{
+    match shake {
+        Some(shake) => push_handshake(changes, &shake),
+        None => Ok(()),
+    }
+}
+
+/// Appends the changes of a handshake, in order of the variables.
+#[tactic(auto, unfolding(crate::specs::Bus::handshake_changes))]
+fn push_handshake(changes: &mut Vec<Change>, shake: &Handshake) -> Result<(), AllocError>
+    ensures { OnOk result (changes.new.items ≡ changes.old.items ++ handshake_changes shake.now) }
+{
+    push_address_strobe(changes, shake)?;
+    push_address(changes, shake)?;
+    push_levels(changes, shake)?;
+    push_data_strobes(changes, shake)?;
+    push_data(changes, shake)?;
+    push_answer(changes, shake)
+}
+
+/// AS* and the address modifier.
+#[tactic(auto, unfolding(crate::specs::Bus::address_strobe_changes))]
+fn push_address_strobe(changes: &mut Vec<Change>, shake: &Handshake) -> Result<(), AllocError>
+    ensures { OnOk result (changes.new.items ≡ changes.old.items ++ address_strobe_changes shake.now) }
+{
+    let (strobe, modifier) = (Code::bus(b'I'), Code::bus(b'J'));
+    let code = Value::Number {
+        width: 6,
+        number: u32::from(shake.lines.am().code()),
+    };
+    push_if(changes, shake.opens, 1, strobe, Value::Low)?;
+    push_if(changes, shake.ends, shake.edge(6), strobe, Value::High)?;
+    push_if(changes, shake.opens, 0, modifier, code)?;
+    push_if(
+        changes,
+        shake.ends,
+        shake.edge(9),
+        modifier,
+        Value::Released,
+    )
+}
+
+/// A31 to A02.
+#[tactic(auto, unfolding(crate::specs::Bus::address_changes))]
+fn push_address(changes: &mut Vec<Change>, shake: &Handshake) -> Result<(), AllocError>
+    ensures { OnOk result (changes.new.items ≡ changes.old.items ++ address_changes shake.now) }
+{
+    let code = Code::bus(b'K');
+    let wide = is_wide(shake);
+    let upper = upper_number(&shake.lines);
+    let address = Value::Number {
+        width: 32,
+        number: shake.lines.addr(),
+    };
+    let data = Value::Number {
+        width: 32,
+        number: upper - upper % 4,
+    };
+    push_if(changes, shake.opens, 0, code, address)?;
+    push_if(changes, shake.clears, 10, code, Value::Released)?;
+    push_if(changes, wide, drive_edge(shake), code, data)?;
+    push_if(changes, wide, shake.edge(7), code, Value::Released)?;
+    push_if(changes, shake.ends, shake.edge(9), code, Value::Released)
+}
+
+/// A01, LWORD* and WRITE*.
+#[tactic(auto, unfolding(crate::specs::Bus::level_changes))]
+fn push_levels(changes: &mut Vec<Change>, shake: &Handshake) -> Result<(), AllocError>
+    ensures { OnOk result (changes.new.items ≡ changes.old.items ++ level_changes shake.now) }
+{
+    let strobes = shake.lines.strobes();
+    let upper = upper_number(&shake.lines);
+    let write = Code::bus(b'N');
+    push_address_level(changes, shake, b'L', strobes.a01, upper / 2 % 2 == 1)?;
+    push_address_level(changes, shake, b'M', strobes.lword, upper % 2 == 1)?;
+    push_if(
+        changes,
+        shake.opens,
+        0,
+        write,
+        Value::level(shake.lines.write()),
+    )?;
+    push_if(changes, shake.falls, 10, write, Value::Low)?;
+    push_if(changes, shake.ends, shake.edge(9), write, Value::Free)
+}
+
+/// A line that shows a level with the address, and a bit of eight-byte data.
+fn push_address_level(
+    changes: &mut Vec<Change>,
+    shake: &Handshake,
+    letter: u8,
+    level: bool,
+    bit: bool,
+) -> Result<(), AllocError>
+    ensures { OnOk result (changes.new.items
+        ≡ changes.old.items ++ address_level_changes shake.now letter level bit) }
+{
+    let code = Code::bus(letter);
+    let wide = is_wide(shake);
+    push_if(changes, shake.opens, 0, code, Value::level(level))?;
+    push_if(changes, shake.clears, 10, code, Value::Free)?;
+    push_if(changes, wide, drive_edge(shake), code, Value::level(bit))?;
+    push_if(changes, wide, shake.edge(7), code, Value::Free)?;
+    push_if(changes, shake.ends, shake.edge(9), code, Value::Free)
+}
+
+/// DS1* and DS0*.
+#[tactic(auto, unfolding(crate::specs::Bus::data_strobe_changes))]
+fn push_data_strobes(changes: &mut Vec<Change>, shake: &Handshake) -> Result<(), AllocError>
+    ensures { OnOk result (changes.new.items ≡ changes.old.items ++ data_strobe_changes shake.now) }
+{
+    let strobes = shake.lines.strobes();
+    let (first, second) = (Code::bus(b'O'), Code::bus(b'P'));
+    push_if(changes, !strobes.ds1, shake.edge(1), first, Value::Low)?;
+    push_if(changes, !strobes.ds1, shake.edge(6), first, Value::High)?;
+    push_if(changes, !strobes.ds0, shake.edge(1), second, Value::Low)?;
+    push_if(changes, !strobes.ds0, shake.edge(6), second, Value::High)
+}
+
+/// D31 to D00, and the upper half of eight-byte data.
+#[tactic(auto, unfolding(crate::specs::Bus::data_changes))]
+fn push_data(changes: &mut Vec<Change>, shake: &Handshake) -> Result<(), AllocError>
+    ensures { OnOk result (changes.new.items ≡ changes.old.items ++ data_changes shake.now) }
+{
+    let lanes = shake.lines.lines().lanes();
+    let (lower, upper) = (Code::bus(b'Q'), Code::bus(b'R'));
+    let wide = is_wide(shake);
+    push_if(
+        changes,
+        shake.carries,
+        drive_edge(shake),
+        lower,
+        Value::Lanes(lower_lanes(lanes)),
+    )?;
+    push_if(
+        changes,
+        shake.carries,
+        shake.edge(7),
+        lower,
+        Value::Released,
+    )?;
+    push_if(
+        changes,
+        wide,
+        drive_edge(shake),
+        upper,
+        Value::Lanes(upper_lanes(lanes)),
+    )?;
+    push_if(changes, wide, shake.edge(7), upper, Value::Released)
+}
+
+/// DTACK* and BERR*.
+#[tactic(auto, unfolding(crate::specs::Bus::answer_changes))]
+fn push_answer(changes: &mut Vec<Change>, shake: &Handshake) -> Result<(), AllocError>
+    ensures { OnOk result (changes.new.items ≡ changes.old.items ++ answer_changes shake.now) }
+{
+    let (done, error) = (Code::bus(b'S'), Code::bus(b'T'));
+    push_if(changes, !shake.berr, shake.edge(3), done, Value::Low)?;
+    push_if(changes, !shake.berr, shake.edge(8), done, Value::High)?;
+    push_if(changes, shake.berr, shake.edge(3), error, Value::Low)?;
+    push_if(changes, shake.berr, shake.edge(8), error, Value::High)
+}
+
+/// Whether a handshake moves eight bytes, four of them over the address lines.
+fn is_wide(shake: &Handshake) -> bool
+    ensures { result ≡ is_wide shake.now }
+{
+    shake.lines.am().wide() && shake.carries
+}
+
+/// The edge at which the data are driven: by the master at the begin, and by the board after the
+/// strobes.
+fn drive_edge(shake: &Handshake) -> u8
+    ensures { result ≡ drive_edge shake.now }
+{
+    if shake.lines.write() {
+        shake.edge(2)
+    } else {
+        shake.edge(0)
+    }
+}
+
+/// The lanes D31 to D00.
+fn lower_lanes(lanes: [Option<u8>; 8]) -> [Option<u8>; 4]
+    ensures { result ≡ lower_lanes lanes }
+{
+    let [_, _, _, _, e, f, g, h] = lanes;
+    [e, f, g, h]
+}
+
+/// The lanes D63 to D32 of the address lines.
+fn upper_lanes(lanes: [Option<u8>; 8]) -> [Option<u8>; 4]
+    ensures { result ≡ upper_lanes lanes }
+{
+    let [a, b, c, d, _, _, _, _] = lanes;
+    [a, b, c, d]
+}
+
+/// The number on the lanes of the address lines, the first lane most significant.
+fn upper_number(signals: &Signals) -> u32
+    ensures { result ≡ upper_number signals.now.lanes }
+{
+    let [a, b, c, d, _, _, _, _] = signals.lines().lanes();
+    16_777_216 * byte_on(a) + 65_536 * byte_on(b) + 256 * byte_on(c) + byte_on(d)
+}
+
+/// The byte on a lane; 0 if it carries none.
+fn byte_on(lane: Option<u8>) -> u32
+    ensures value { result ≡ byte_on lane }
+    ensures small { result < 256 }
+{
+    match lane {
+        Some(byte) => u32::from(byte),
+        None => 0,
+    }
+}

@@ -1,0 +1,136 @@
+-- Each event of a run belongs to the transfer of the processor that holds the bus, if it belongs to one.
+use Rattle.std.proofs.Common.{◌≡◌, ℕ, ◌<◌, List, [], ◌∷◌, ◌++◌, length, Option, Some, None, refl, ap, sym, subst, ◌∙◌, arith, inl, inr}
+use Rattle.std.specs.Prelude.{slice_get, option_map}
+use Rattle.std.specs.Option.{option_and_then, option_to_list}
+use Rattle.std.proofs.lemmas.Bool.{false≢true}
+use Rattle.std.proofs.lemmas.Bool.Decides.{eqb_tells}
+use Rattle.vme_core.specs.Runs.{Machine}
+use Rattle.vme_script.specs.declared.script.ScriptLine.{ScriptLine}
+use Rattle.vme_script.specs.Configurations.{Configuration}
+use Rattle.vme_script.specs.Lawful.{IsLawful}
+use Rattle.vme_line_task.specs.Scripts.{slot_at}
+use Rattle.vme_stepper.specs.Turns.{SystemState, script_state, board_in_slot, initial_state, state_after}
+use Rattle.vme_stepper.specs.Steppers.{StepperView, stepper_turn, stepper_turn_at, processor_of, stepper_of}
+use Rattle.vme_stepper.proofs.lemmas.Runs.{turn_more}
+use Rattle.vme_trace.specs.declared.observation.Observation.{Observation}
+use Rattle.vme_trace.specs.Observations.{observed, observed_at, observed_from, observations}
+use Rattle.vme_trace.specs.declared.dump.handshake.Handshake.{Handshake}
+use Rattle.vme_trace.specs.Handshakes.{first_handshake}
+use Rattle.vme_trace_laws.specs.Transfers.{open_after}
+use Rattle.vme_trace_laws.specs.Steps.{IsStepShown}
+use Rattle.vme_trace_laws.proofs.turns.Elements.{get_map}
+use Rattle.vme_trace_laws.proofs.turns.Turns.{processors_get, IsTurnShown, turn_shown}
+use Rattle.vme_trace_laws.proofs.turns.Runs.{place_below}
+use Rattle.vme_trace_laws.proofs.turns.Views.{holding, amid, IsLike, like_same}
+use Rattle.vme_trace_laws.proofs.turns.Moves.{IsMove}
+use Rattle.vme_trace_laws.proofs.turns.Tenures.{IsTenure, IsOpening, going_holds, going_apart, own_holds, opening_of, tenure_next, tenure_same}
+use Rattle.vme_trace_laws.proofs.turns.Goes.{view_in}
+use Rattle.vme_trace_laws.proofs.turns.Walks.{view_at, IsTurn, system_turn}
+
+module _ (config : Configuration) where
+  -- an event begins its transfer when none is open, or belongs to the open one; both are of the slot that holds the bus; an
+  -- event without a handshake is of another processor than the open transfer
+  pub record IsInOrder (machine : Machine) (going : Option ℕ) (o : Observation) : Type 0 where
+    pub opening : IsOpening going o
+    pub own : (t : Handshake) → first_handshake o.activity o.reply ≡ Some t
+        → (o.board < length config.boards) × (machine.bus.object.holder ≡ Some (slot_at config o.board))
+    pub open_holds : (b : ℕ) → going ≡ Some b → (b < length config.boards) × (machine.bus.object.holder ≡ Some (slot_at config b))
+    pub apart : (b : ℕ) → going ≡ Some b → first_handshake o.activity o.reply ≡ None → o.board ≡ b → ⊥
+
+  -- events are the steps of a run of the machine, each in order
+  abbrev pub IsOrderly : Machine → Option ℕ → List Observation → Type 0
+  IsOrderly machine going [] = Unit {0}
+  IsOrderly machine going (o ∷ events) =
+      (next : Machine) × IsStepShown config machine o next × IsInOrder machine going o × IsOrderly next (open_after going o) events
+
+module _ (config : Configuration) (lawful : IsLawful config) where
+  -- the invariant of a stepper
+  abbrev IsSound : StepperView → Option ℕ → Type 0
+  IsSound stepper going = IsTenure config lawful stepper.machine.bus.object (view_at stepper) going
+
+  -- what follows a turn is orderly
+  turned : (board : ℕ) (found : Option Observation) (before after : StepperView) (going : Option ℕ) (later : List Observation)
+      → board < length config.boards → IsTurnShown config before.machine found after.machine → IsTurn config board found before after → IsSound before going
+      → ((next : Option ℕ) → IsSound after next → IsOrderly config after.machine next later) → IsOrderly config before.machine going (option_to_list found ++ later)
+  turned board None before after going later there shown turn sound rest =
+      subst (λ (m : Machine). IsOrderly config m going later) shown (rest going (tenure_same config lawful before.machine.bus.object after.machine.bus.object (view_at before) (view_at after) going sound
+      (ap (λ (m : Machine). m.bus.object.holder) turn.step.0) (λ j. like j)))
+    where
+      like : (j : ℕ) → IsLike (view_at after j) (view_at before j)
+      like j =
+          elim (eqb_tells board j) [
+            | inl same ↦ subst (λ k. IsLike (view_at after k) (view_at before k)) same.1 turn.step.1
+            | inr other ↦ subst (λ v. IsLike v (view_at before j)) (sym (turn.others j other.1)) (like_same (view_at before j))
+          ]
+  turned board (Some o) before after going later there shown turn sound rest =
+      let own : o.board ≡ board = turn.step.0 in
+      let there' : o.board < length config.boards = subst (λ (b : ℕ). b < length config.boards) (sym own) there in
+      let move : IsMove (slot_at config o.board) (view_at before o.board) (view_at after o.board) before.machine.bus.object after.machine.bus.object
+      o.activity o.reply
+      = subst (λ (b : ℕ). IsMove (slot_at config b) (view_at before b) (view_at after b) before.machine.bus.object after.machine.bus.object
+      o.activity o.reply) (sym own) turn.step.1 in (
+        after.machine,
+        shown,
+        record {
+          opening = λ t first. opening_of config lawful before.machine.bus.object (view_at before) going sound o (view_at after o.board) t
+              (first_handshake o.activity o.reply) first move.shown;
+          own = λ t first. own_holds config lawful before.machine.bus.object (view_at before) going sound o (view_at after o.board) t
+              (first_handshake o.activity o.reply) first move.shown;
+          open_holds = λ b is. going_holds config lawful before.machine.bus.object (view_at before) going sound b is;
+          apart = λ b is none same. going_apart config lawful before.machine.bus.object (view_at before) going sound o (view_at after o.board) b
+              (first_handshake o.activity o.reply) is none move.shown same;
+        },
+        rest (open_after going o) (tenure_next config lawful before.machine.bus.object after.machine.bus.object (view_at before) (view_at after) going o sound
+            there' (λ j apart. turn.others j (λ same. apart (own ∙ same))) move),
+      )
+
+  -- a turn at the index of a board, if there is one
+  placed : (system : SystemState) (slot : ℕ) (place : Option ℕ) (going : Option ℕ) (later : List Observation) → board_in_slot config slot ≡ place
+      → IsSound (stepper_of config system) going
+      → ((next : Option ℕ) → IsSound (stepper_turn_at config (stepper_of config system) place) next
+      → IsOrderly config (stepper_turn_at config (stepper_of config system) place).machine next later)
+      → IsOrderly config system.machine going (option_to_list (observed_at config (stepper_of config system) place) ++ later)
+  placed system slot None going later is sound rest = rest going sound
+  placed system slot (Some board) going later is sound rest =
+      let stepper : StepperView = stepper_of config system in
+      turned board (observed config stepper board) stepper (stepper_turn config stepper board) going later (place_below config.boards slot board is)
+      (turn_shown config system board (slice_get system.script_states board) (place_below config.boards slot board is) refl)
+      (system_turn config system board (slice_get system.script_states board) refl) sound rest
+
+  -- after some turns, what later turns did is orderly
+  later_orderly : (before slots : List ℕ) (going : Option ℕ) → IsSound (stepper_of config (state_after config before)) going
+      → IsOrderly config (state_after config before).machine going (observed_from config (stepper_of config (state_after config before)) slots)
+  later_orderly before [] going sound = tt
+  later_orderly before (slot ∷ slots) going sound =
+      let system = state_after config before in
+      let stepper : StepperView = stepper_of config system in
+      let place = board_in_slot config slot in
+      let next : stepper_turn_at config stepper place ≡ stepper_of config (state_after config (before ++ slot ∷ []))
+      = turn_more config stepper before slot place refl refl in
+      placed system slot place going (observed_from config (stepper_turn_at config stepper place) slots) refl sound
+      (λ new rest. subst (λ (s : StepperView). IsOrderly config s.machine new (observed_from config s slots)) (sym next)
+      (later_orderly (before ++ slot ∷ []) slots new (subst (λ (s : StepperView). IsSound s new) next rest)))
+
+  -- at the start no line has begun
+  start_view : (board : ℕ) (found : Option (List ScriptLine)) → slice_get config.scripts board ≡ found → view_at (stepper_of config (initial_state config)) board ≡ None
+  start_view board found is =
+      ap (option_and_then view_in) (processors_get config 0 board board (initial_state config).script_states (omega arith)
+      ∙ ap (option_map (processor_of config board)) (get_map (λ (script : List ScriptLine). script_state [] []) config.scripts board ∙ ap (option_map (λ (script : List ScriptLine). script_state [] [])) is))
+      ∙ none found
+    where
+      none : (found : Option (List ScriptLine))
+          → option_and_then view_in (option_map (processor_of config board) (option_map (λ (script : List ScriptLine). script_state [] []) found)) ≡ None
+      none None = refl
+      none (Some script) = refl
+
+  -- the invariant holds at the start
+  start_sound : IsSound (stepper_of config (initial_state config)) None
+  start_sound = record {
+    held = λ j now. absurd (false≢true (sym (ap holding (start_view j (slice_get config.scripts j) refl)) ∙ now));
+    amid_open = λ j. ap amid (start_view j (slice_get config.scripts j) refl);
+  }
+
+  -- the events of turns are orderly
+  pub run_orderly : (slots : List ℕ) → IsOrderly config (initial_state config).machine None (observations config slots)
+  unfolding observations state_after
+  run_orderly slots = later_orderly [] slots None start_sound

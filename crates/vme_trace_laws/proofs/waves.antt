@@ -1,0 +1,17 @@
+pub mod Afters
+pub mod Pulses
+pub mod Groups
+pub mod Quiet
+pub mod Values
+pub mod Events
+pub mod Slots
+pub mod Arbitration
+pub mod Strobes
+pub mod Addresses
+pub mod Opening
+pub mod Shapes
+pub mod Joined
+pub mod EventLines
+pub mod Rules
+pub mod EventEnds
+pub mod SlotEnds

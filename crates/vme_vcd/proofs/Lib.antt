@@ -1,3 +1,0 @@
-pub mod Appends
-pub mod Digits
-pub mod Ranges

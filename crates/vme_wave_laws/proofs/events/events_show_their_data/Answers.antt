@@ -1,5 +1,0 @@
-use Rattle.vme_wave_laws.proofs.EventEnds.{event_data}
-use Rattle.vme_wave_laws.proofs.events.events_show_their_data.Goals as goal
-
-pub returns : goal.returns
-returns c = event_data
