@@ -4,8 +4,9 @@ use crate::sink::Sink;
 use crate::source::{Failed, Source};
 use std::io::{Read, Write};
 
-/// A reader or a writer of std as a device. As a device it has no byte model. It fails where the
-/// reader or the writer fails, an interrupted call included, and where a write takes no byte.
+/// A reader or a writer of std as a device. Its bytes are those of the reader or the writer: it has
+/// a byte model if and only if that one has. It fails where the reader or the writer fails, an
+/// interrupted call included, and where a write takes no byte.
 #[derive(Drop)]
 pub struct Io<T> {
     inner: T,
@@ -28,26 +29,14 @@ impl<T> Io<T> {
 }
 
 impl<T: Read> Source for Io<T> {
-    ghost use Rattle.std.specs.Prelude.{◌≡◌, ◌<◌, ◌≤◌, None, Ok, true, length, take, IfOk, OnOk, OnErr};
-    ghost use Rattle.std.specs.Io.KnownBytes.{Keeps, Consumes, IsAtEnd};
     ghost use Rattle.vme_io.specs.Devices.{mark_of, inner_of};
 
     ghost is_marked = { mark_of };
 
-    ghost remaining = { λ _. None };
+    ghost remaining = { λ io. T.remaining (inner_of io) };
 
     /// Reads once from the inner reader.
-    fn read(&mut self, buffer: &mut [u8]) -> Result<usize, Failed>
-        requires { 0 < length buffer.old }
-        ensures count { IfOk result (λ n. n ≤ length buffer.new) }
-        ensures unmarked { OnOk result (mark_of self.new ≡ mark_of self.old) }
-        ensures marked { OnErr result (mark_of self.new ≡ true) }
-        ensures inner { IfOk result (λ n.
-            Consumes (T.remaining (inner_of self.old)) (T.remaining (inner_of self.new)) (take n buffer.new)) }
-        ensures inner_end { result ≡ Ok 0 → IsAtEnd (T.remaining (inner_of self.new)) }
-        ensures inner_kept { OnErr result
-            (Keeps (T.remaining (inner_of self.old)) (T.remaining (inner_of self.new))) }
-    {
+    fn read(&mut self, buffer: &mut [u8]) -> Result<usize, Failed> {
         match self.inner.read(buffer) {
             Ok(count) => Ok(count),
             Err(_) => {
@@ -59,25 +48,14 @@ impl<T: Read> Source for Io<T> {
 }
 
 impl<T: Write> Sink for Io<T> {
-    ghost use Rattle.std.specs.Prelude.{◌≡◌, ◌<◌, ◌≤◌, None, true, length, take, IfOk, OnOk, OnErr};
-    ghost use Rattle.std.specs.Io.KnownBytes.{Keeps, Appends};
     ghost use Rattle.vme_io.specs.Devices.{mark_of, inner_of};
 
     ghost is_marked = { mark_of };
 
-    ghost contents = { λ _. None };
+    ghost contents = { λ io. T.contents (inner_of io) };
 
     /// Writes once to the inner writer.
-    fn write(&mut self, bytes: &[u8]) -> Result<usize, Failed>
-        requires { 0 < length bytes.now }
-        ensures count { IfOk result (λ n. (1 ≤ n) × (n ≤ length bytes.now)) }
-        ensures unmarked { OnOk result (mark_of self.new ≡ mark_of self.old) }
-        ensures marked { OnErr result (mark_of self.new ≡ true) }
-        ensures inner { IfOk result (λ n.
-            Appends (T.contents (inner_of self.old)) (T.contents (inner_of self.new)) (take n bytes.now)) }
-        ensures inner_kept { OnErr result
-            (Keeps (T.contents (inner_of self.old)) (T.contents (inner_of self.new))) }
-    {
+    fn write(&mut self, bytes: &[u8]) -> Result<usize, Failed> {
         match self.inner.write(bytes) {
             Ok(count) if 0 < count => Ok(count),
             _ => {
