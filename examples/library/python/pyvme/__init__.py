@@ -9,8 +9,8 @@ here: `Refused` for K1 to K9 and C1 to C4, `BusError`, `NoBoard`, and `VmeError`
     >>> board.read(5, 2).hex()
     '0203'
 
-Numbers are converted as in C: one that is too large for its type loses its upper bits. The variable LIBVME names the shared
-object, if it is not where the loader looks for libvme.so.1.
+A number that does not fit its field, as an address of 2^32, is a `ValueError` with the field, the value and the range. The
+variable LIBVME names the shared object, if it is not where the loader looks for libvme.so.1.
 """
 
 from .arbiter import Arbiter

@@ -2,10 +2,11 @@
 
 from __future__ import annotations
 
-from ctypes import byref
+from ctypes import byref, c_uint16
 
 from .errors import require
 from .library import lib
+from .numbers import fitting
 from .structures import Datum, Lines, Modify, RequestKind, RequestStruct
 
 
@@ -24,10 +25,12 @@ class Request:
         f: Modify | None = None,
     ) -> None:
         """Checks a request. `count` is the number of data of a block, and `data` has the bytes of a write: those of all
-        data, or one datum that each of them has. Raises `Refused` with the first refusal, K1 to K9."""
+        data, or one datum that each of them has. Raises `Refused` with the first refusal, K1 to K9, and `ValueError` for a
+        number that does not fit its field."""
         self.kind, self.am, self.addr, self.n = kind, am, addr, n
         self.f = f or Modify()
         self._data = data
+        fitting("count", count, c_uint16)
         is_block = kind in (RequestKind.BLOCK_READ, RequestKind.BLOCK_WRITE)
         if kind == RequestKind.BLOCK_WRITE and len(data) not in (n, n * count):
             count = 0  # so the refusal is K8

@@ -1,7 +1,9 @@
 """The numbers and the structs of vme.h."""
 
-from ctypes import Structure, c_size_t, c_uint8, c_uint16, c_uint32
+from ctypes import c_size_t, c_uint8, c_uint16, c_uint32
 from enum import IntEnum
+
+from .numbers import Lanes, Record
 
 IDLE = 0xFFFF
 """A data lane that nothing drives, or a slot without a request."""
@@ -76,7 +78,7 @@ class ArbiterReply(IntEnum):
     DENIED = 4
 
 
-class Datum(Structure):
+class Datum(Record):
     """The bytes of one datum."""
 
     _fields_ = [("n", c_uint8), ("bytes", c_uint8 * 8)]
@@ -94,25 +96,25 @@ class Datum(Structure):
         return bytes(self.bytes[: min(self.n, 8)])
 
 
-class AmRow(Structure):
+class AmRow(Record):
     """The row of an address modifier code: `space`, `kind`, `supervisory` and `wide`."""
 
     _fields_ = [("space", c_uint8), ("kind", c_uint8), ("supervisory", c_uint8), ("wide", c_uint8)]
 
 
-class Strobes(Structure):
+class Strobes(Record):
     """The levels of DS1*, DS0*, A01 and LWORD*: 0 is low."""
 
     _fields_ = [("ds1", c_uint8), ("ds0", c_uint8), ("a01", c_uint8), ("lword", c_uint8)]
 
 
-class Place(Structure):
+class Place(Record):
     """The bytes of a group of four that a cycle reaches: `first` and `n`."""
 
     _fields_ = [("first", c_uint8), ("n", c_uint8)]
 
 
-class Lines(Structure):
+class Lines(Record):
     """The lines of one cycle. `lanes` has a byte or `IDLE` for each of D63-D56 to D07-D00."""
 
     _fields_ = [
@@ -120,11 +122,11 @@ class Lines(Structure):
         ("am", c_uint8),
         ("write", c_uint8),
         ("strobes", Strobes),
-        ("lanes", c_uint16 * 8),
+        ("lanes", Lanes),
     ]
 
 
-class Modify(Structure):
+class Modify(Record):
     """The function of a read-modify-write with its operands."""
 
     _fields_ = [("function", c_uint8), ("operand", Datum), ("put", Datum)]
@@ -135,7 +137,7 @@ class Modify(Structure):
         return cls(function, Datum.of(operand), Datum.of(put))
 
 
-class RequestStruct(Structure):
+class RequestStruct(Record):
     """A request of a master."""
 
     _fields_ = [
@@ -148,25 +150,25 @@ class RequestStruct(Structure):
     ]
 
 
-class BoardClass(Structure):
+class BoardClass(Record):
     """The cycles to which a slave replies: `width` 8, 16 or 32, and the switches `uat`, `blt` and `rmw`."""
 
     _fields_ = [("width", c_uint8), ("uat", c_uint8), ("blt", c_uint8), ("rmw", c_uint8)]
 
 
-class Entry(Structure):
+class Entry(Record):
     """The addresses at which one board responds: `size` bytes from `base` in the `space` 16, 24 or 32."""
 
     _fields_ = [("base", c_uint32), ("size", c_uint32), ("space", c_uint8), ("supervisory", c_uint8)]
 
 
-class Selection(Structure):
+class Selection(Record):
     """The selected entry and the offset in it."""
 
     _fields_ = [("place", c_size_t), ("offset", c_uint32)]
 
 
-class ArbiterState(Structure):
+class ArbiterState(Record):
     """The state of an arbiter."""
 
     _fields_ = [
