@@ -95,7 +95,8 @@ impl<'a> AwaitTask<'a> {
     {
         if *left > 1 && self.wants_retry() {
             *left -= 1;
-            self.task.begin_again();
+            self.task.restart();
+            self.task.advance(None);
         }
     }
 

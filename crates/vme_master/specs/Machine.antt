@@ -1,5 +1,5 @@
 -- A task as a machine that keeps its phase in place of the replies so far, for this crate's own functions.
-use Rattle.std.specs.Prelude.{ℕ, ◌≡◌, ◌+◌, ◌*◌, ◌%◌, ◌<◌, ◌≤◌, Bool, true, false, ◌==◌, if◌then◌else◌, nat_lt, List, [], ◌∷◌, ◌++◌, length, Option, Some, None, unwrap_or, IfSome, Result, Ok, Err}
+use Rattle.std.specs.Prelude.{ℕ, ◌≡◌, ◌+◌, ◌*◌, ◌%◌, ◌<◌, ◌≤◌, Bool, true, false, ◌==◌, if◌then◌else◌, nat_lt, List, [], ◌∷◌, ◌++◌, length, Option, Some, None, unwrap_or, IfSome, IsSome, Result, Ok, Err}
 use Rattle.vme_cycle.specs.declared.fault.CycleFault.{CycleFault}
 use Rattle.vme_cycle.specs.Requests.{addr_of, count_of, read_len}
 use Rattle.vme_cycle.specs.Lawful.{Transfer}
@@ -183,9 +183,14 @@ abbrev pub IsShort : ExpectedReply → ℕ → Type 0
 IsShort (expected_replies.Modify n) most = most ≤ 8
 IsShort expected most = Unit {0}
 
--- no more bytes were read than the data so far can have
+-- the calls of a job reach a board: one is selected, or the job is a local command
+abbrev pub HasBoard : Job → Type 0
+HasBoard (Bus job) = IsSome job.place
+HasBoard (Local job) = Unit {0}
+
+-- no more bytes were read than the data so far can have, and a call on a board is one of the job's and reaches a board
 abbrev pub HasRead : Job → Phase → List ℕ → Type 0
-HasRead job (Transferring i) read = (i < call_count job) × (length read ≤ most_bytes job * i)
+HasRead job (Transferring i) read = (i < call_count job) × (length read ≤ most_bytes job * i) × HasBoard job
 HasRead job (Releasing berr) read = length read ≤ job_read_len job
 HasRead job (Finished berr) read = length read ≤ job_read_len job
 HasRead job Denied read = Unit {0}

@@ -16,19 +16,10 @@ use vme_arbiter::ArbCmd;
 use vme_core::Core;
 
 impl Task<'_> {
-    /// Performs the next event on `core` for processor `who` and gives the task the reply. Without
-    /// a next event nothing changes. This is `event_ref`, `Core::apply_ref` and `advance` in one,
-    /// and faster, since neither event nor reply is copied in between.
-    pub fn advance_on(&mut self, core: &mut Core, who: usize)
-        requires who { who < process_count core.old }
-        requires can { CanMake core.old (call_in (to_do self.old)) }
-        ensures { AdvancesOn to_do advance who core.old core.new self.old self.new }
-    {
-        self.step_on(core, who);
-    }
-
-    /// Performs the next event on `core` for processor `who` as `advance_on` does, and returns
-    /// whether the task has ended with this event.
+    /// Performs the next event on `core` for processor `who`, gives the task the reply and returns
+    /// whether the task has ended with this event. Without a next event nothing changes. With one,
+    /// this is `event_ref`, `Core::apply_ref`, `advance` and `is_finished` in one, and faster, since
+    /// neither event nor reply is copied in between.
     #[inline(always)]
     pub fn step_on(&mut self, core: &mut Core, who: usize) -> bool
         requires who { who < process_count core.old }
@@ -55,9 +46,7 @@ impl Task<'_> {
                 self.is_finished()
             }
             (Job::Bus(job), Phase::Transferring { i }) => {
-                let Some((board, offset)) = job.place else {
-                    return self.step_on_in_parts(core, who);
-                };
+                let (board, offset) = job.place.unwrap();
                 let reply = core.apply_datum(who, board, &job.datum_at(board, offset, i));
                 self.on_board_reply(Phase::Transferring { i }, &reply);
                 self.is_finished()
@@ -69,21 +58,6 @@ impl Task<'_> {
             }
             _ => false,
         }
-    }
-
-    /// Performs the next event as `step_on` does, by `event_ref`, `Core::apply_ref` and `advance`.
-    fn step_on_in_parts(&mut self, core: &mut Core, who: usize) -> bool
-        requires who { who < process_count core.old }
-        requires can { CanMake core.old (call_in (to_do self.old)) }
-        ensures step { AdvancesOn to_do advance who core.old core.new self.old self.new }
-        ensures ended { result ≡ ends_by_call to_do self.old self.new }
-    {
-        let Some(event) = self.event_ref() else {
-            return false;
-        };
-        let reply = core.apply_ref(who, &event);
-        self.advance(Some(&reply));
-        self.is_finished()
     }
 
     /// Performs the next event by a call of `caller`, gives the task the reply and returns whether

@@ -242,16 +242,6 @@ impl<'a> Task<'a> {
         self.read.clear();
     }
 
-    /// Resets the task to its state after the first call. This is `restart` and `advance` in one,
-    /// and shorter, since there is no reply to read.
-    pub fn begin_again(&mut self)
-        ensures task { self.new ≡ advance (fresh_task self.old.job) None }
-        ensures begun { to_do self.new ≢ NotStarted }
-    {
-        self.restart();
-        self.call();
-    }
-
     /// Handles the first call, and any later one without a reply.
     fn call(&mut self)
         ensures task { self.new ≡ advance self.old None }

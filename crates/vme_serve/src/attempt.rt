@@ -38,7 +38,7 @@ pub(crate) fn outcome_of(
 {
     task.advance(None);
     while 0 < *left && !task.is_finished() {
-        task.advance_on(core, who);
+        task.step_on(core, who);
         *left -= 1;
     }
     task.into_outcome()

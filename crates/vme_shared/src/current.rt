@@ -58,7 +58,7 @@ impl CurrentTransfer<'_> {
 
     /// Performs the next event of the transfer at work on `core` for processor `who` and gives the
     /// transfer the reply. If this ends the transfer, returns what follows the transfer.
-    pub(crate) fn advance_on(
+    pub(crate) fn step_on(
         &mut self,
         request: SharedRequest,
         core: &mut Core,
@@ -79,8 +79,7 @@ impl CurrentTransfer<'_> {
         let stage = *stage;
         match self {
             CurrentTransfer::Running { task, .. } => {
-                task.advance_on(core, who);
-                if !task.is_finished() {
+                if !task.step_on(core, who) {
                     return None;
                 }
                 Some(outcome_step(request, stage, task)?)
@@ -105,7 +104,8 @@ impl CurrentTransfer<'_> {
                 stage: Stage::Locks,
                 task,
             } => {
-                task.begin_again();
+                task.restart();
+                task.advance(None);
                 true
             }
             _ => false,

@@ -86,20 +86,10 @@ impl<'a> SharedTask<'a> {
     }
 
     /// Performs the next event on `core` for processor `who` and gives the task the reply. Without
-    /// a next event nothing changes. This is `event_ref`, `Core::apply_ref` and `advance` in one,
-    /// and faster.
-    pub fn advance_on(&mut self, core: &mut Core, who: usize)
-        requires who { who < process_count core.old }
-        requires can { CanMake core.old (call_in (shared_to_do self.old)) }
-        ensures { AdvancesOn shared_to_do shared_advance who core.old core.new self.old self.new }
-    {
-        self.advance_on_retrying(core, who, false);
-    }
-
-    /// Performs the next event as `advance_on` does. If the task thereby ends, since the lock is
-    /// already taken, it may begin again in its place, with its first call made. Returns whether it
-    /// has done so, which `may_retry` has to allow. This is faster than `restart` and `advance`,
-    /// since no bus task is made anew.
+    /// a next event nothing changes. If the task thereby ends, since the lock is already taken, it
+    /// may begin again in its place, with its first call made. Returns whether it has done so, which
+    /// `may_retry` has to allow. This is faster than `event_ref`, `Core::apply_ref`, `advance` and
+    /// `restart`, since no event is copied and no bus task is made anew.
     pub fn advance_on_retrying(&mut self, core: &mut Core, who: usize, may_retry: bool) -> bool
         requires who { who < process_count core.old }
         requires can { CanMake core.old (call_in (shared_to_do self.old)) }
@@ -109,7 +99,7 @@ impl<'a> SharedTask<'a> {
             AdvancesOn shared_to_do shared_advance who core.old core.new self.old self.new }
     {
         let request = self.job.request();
-        let Some(step) = self.current.advance_on(request, core, who) else {
+        let Some(step) = self.current.step_on(request, core, who) else {
             return false;
         };
         if may_retry && self.current.retry(request, step) {

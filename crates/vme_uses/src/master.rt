@@ -15,6 +15,5 @@ pub fn perform_local(core: &mut Core, cmd: BoardCmd) -> bool
 {
     let mut task = Task::local(0, cmd);
     task.advance(None);
-    task.advance_on(core, 0);
-    task.is_finished()
+    task.step_on(core, 0)
 }

@@ -1,7 +1,7 @@
 -- The buffer's capacity is enough for the bytes that are read, and the offset of each datum is equal to its address
 -- modulo four.
-use Rattle.std.proofs.Common.{◌≡◌, ℕ, zero, suc, ◌+◌, ◌*◌, ◌%◌, ◌<◌, ◌≤◌, true, List, ◌++◌, length, Option, Some, None, refl, arith, inl, inr, length-append}
-use Rattle.std.specs.Prelude.{nat_lt, unwrap_or}
+use Rattle.std.proofs.Common.{◌≡◌, ℕ, zero, suc, ◌+◌, ◌*◌, ◌%◌, ◌<◌, ◌≤◌, true, List, ◌++◌, length, Option, Some, None, refl, subst, arith, inl, inr, length-append}
+use Rattle.std.specs.Prelude.{nat_lt, unwrap_or, IsSome}
 use Rattle.std.proofs.Math.Nat.{mul-le-mul_left}
 use Rattle.std.proofs.lemmas.Bool.{cases_Bool, ltb-true, eqb-true}
 use Rattle.vme_cycle.specs.declared.request.Request.{Request}
@@ -92,19 +92,20 @@ broken_buffer (Bus job) i read capacity = capacity
 broken_buffer (Local job) i read capacity = capacity
 
 -- the bound on the bytes that were read holds in the phase at a datum
-datum_buffer : (job : BusJob) (place : Option (ℕ × ℕ)) (i : ℕ) (read : List ℕ) → length read ≤ most_bytes (Bus job) * i
-    → length read ≤ job_read_len (Bus job) → HasRead (Bus job) (datum_phase job place i) read
-datum_buffer job None i read so_far capacity = capacity
-datum_buffer job (Some place) i read so_far capacity =
+datum_buffer : (job : BusJob) (place : Option (ℕ × ℕ)) (i : ℕ) (read : List ℕ) → place ≡ job.place
+    → length read ≤ most_bytes (Bus job) * i → length read ≤ job_read_len (Bus job)
+    → HasRead (Bus job) (datum_phase job place i) read
+datum_buffer job None i read same so_far capacity = capacity
+datum_buffer job (Some place) i read same so_far capacity =
     elim (cases_Bool (nat_lt i (count_of job.transfer.request))) [
-      | inl less ↦ rw less (ltb-true i (count_of job.transfer.request) less, so_far)
+      | inl less ↦ rw less (ltb-true i (count_of job.transfer.request) less, so_far, subst IsSome same refl)
       | inr past ↦ rw past capacity
     ]
 
 -- the bound on the bytes that were read holds in the phase at the next call
 next_buffer : (job : Job) (i : ℕ) (read : List ℕ) → i < call_count job → length read ≤ most_bytes job * (i + 1)
     → length read ≤ job_read_len job → HasRead job (phase_at job (i + 1)) read
-next_buffer (Bus job) i read less so_far capacity = datum_buffer job job.place (i + 1) read so_far capacity
+next_buffer (Bus job) i read less so_far capacity = datum_buffer job job.place (i + 1) read refl so_far capacity
 next_buffer (Local job) zero read less so_far capacity = capacity
 next_buffer (Local job) (suc i) read less so_far capacity = absurd (omega arith)
 

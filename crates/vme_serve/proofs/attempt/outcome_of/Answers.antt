@@ -11,8 +11,8 @@ use Rattle.vme_serve.proofs.Serving.{task_follows}
 use Rattle.vme_serve.proofs.attempt.outcome_of.Goals as goal
 use Rattle.vme_serve.proofs.attempt.outcome_of.Goals.{then-loop-left-test+else-not-is_finished, else-loop-left-test}
 
-pub advance_on-requires-clause-can : goal.advance_on-requires-clause-can
-advance_on-requires-clause-can c =
+pub step_on-requires-clause-can : goal.step_on-requires-clause-can
+step_on-requires-clause-can c =
     task_can c.args.task.job c.args.who c.loop-left.left c.loop-left.core c.loop-left.task
     (calls_made (next_of c.args.task.job) c.args.who c.args.left.now c.args.core.now (None ∷ [])) c.loop-left-test.true c.loop-left.invariant.steps
     (subst (λ n. IsBelow n c.args.task.job) (sym c.loop-left.invariant.boards) c.requires.below) c.loop-left.invariant.made
@@ -20,13 +20,13 @@ advance_on-requires-clause-can c =
 pub loop-left-preserved : goal.loop-left-preserved
 loop-left-preserved c = record {
   made = one_call_more (task_given c.args.task.job) (next_of c.args.task.job) to_do advance (task_follows c.args.task.job) c.args.who
-      c.loop-left.left c.loop-left.core c.advance_on.new.core c.loop-left.task c.advance_on.new.self
+      c.loop-left.left c.loop-left.core c.step_on.new.core c.loop-left.task c.step_on.new.self
       (calls_made (next_of c.args.task.job) c.args.who c.args.left.now c.args.core.now (None ∷ [])) c.loop-left-test.true
-      (sym c.is_finished.ensures ∙ c.if-not-is_finished.true) c.loop-left.invariant.made c.advance_on.ensures;
-  boards = c.advance_on.ensures.boards ∙ c.loop-left.invariant.boards;
-  process_count = c.advance_on.ensures.process_count ∙ c.loop-left.invariant.process_count;
-  steps = one_step_more to_do advance c.args.who c.loop-left.left c.loop-left.core c.advance_on.new.core c.loop-left.task
-      c.advance_on.new.self c.loop-left-test.true c.loop-left.invariant.steps c.advance_on.ensures;
+      (sym c.is_finished.ensures ∙ c.if-not-is_finished.true) c.loop-left.invariant.made c.step_on.ensures.step;
+  boards = c.step_on.ensures.step.boards ∙ c.loop-left.invariant.boards;
+  process_count = c.step_on.ensures.step.process_count ∙ c.loop-left.invariant.process_count;
+  steps = one_step_more to_do advance c.args.who c.loop-left.left c.loop-left.core c.step_on.new.core c.loop-left.task
+      c.step_on.new.self c.loop-left-test.true c.loop-left.invariant.steps c.step_on.ensures.step;
 }
 
 pub returns-clause-machine : goal.returns-clause-machine

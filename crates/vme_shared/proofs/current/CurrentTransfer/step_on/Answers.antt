@@ -12,13 +12,13 @@ use Rattle.vme_shared.specs.Steps.{step_after}
 use Rattle.vme_shared.specs.Machine.{current_stepped, current_after, current_to_do, IsGoing, IsOfStage}
 use Rattle.vme_shared.proofs.Advances.{stage_advances}
 use Rattle.vme_shared.proofs.Stages.{advances_of_stage}
-use Rattle.vme_shared.proofs.current.CurrentTransfer.advance_on.Goals as goal
+use Rattle.vme_shared.proofs.current.CurrentTransfer.step_on.Goals as goal
 
 pub returns-in_ok-outcome_step-in-Running-self-clause-step : goal.returns-in_ok-outcome_step-in-Running-self-clause-step
 returns-in_ok-outcome_step-in-Running-self-clause-step c = λ s same.
     let stage = c.in-Running-self.stage in
     let old = c.in-Running-self.task in
-    let new = c.advance_on.new.self in
+    let new = c.step_on.new.self in
     let whole : c.args.self.now ≡ Running stage old = c.in-Running.is ∙ c.in-Running-self.is in
     let here : c.in-Running.stage ≡ stage = cc in
     let step = c.in_ok-outcome_step-in-Running-self.field-0 in
@@ -27,18 +27,18 @@ returns-in_ok-outcome_step-in-Running-self-clause-step c = λ s same.
     ∙ ap (λ (r : SharedRequest). option_map (step_after r c.in-Running.stage) (result_in (to_do new))) (sym same)
     ∙ ap (λ (one : Stage). option_map (step_after s.request one) (result_in (to_do new))) here in
     subst
-    (λ (one : CurrentTransfer). AdvancesOn current_to_do (current_after s) c.args.who c.args.core.now c.advance_on.new.core one
+    (λ (one : CurrentTransfer). AdvancesOn current_to_do (current_after s) c.args.who c.args.core.now c.step_on.new.core one
     (current_stepped s step))
     (sym whole)
-    (stage_advances s stage c.args.who c.args.core.now c.advance_on.new.core old new (Some step)
-    (subst IsGoing whole c.requires.going) c.advance_on.ensures result)
+    (stage_advances s stage c.args.who c.args.core.now c.step_on.new.core old new (Some step)
+    (subst IsGoing whole c.requires.going) c.step_on.ensures.step result)
 
 pub returns-in_ok-outcome_step-in-Running-self-clause-of_stage : goal.returns-in_ok-outcome_step-in-Running-self-clause-of_stage
 returns-in_ok-outcome_step-in-Running-self-clause-of_stage c = λ s of.
-    advances_of_stage s c.in-Running-self.stage c.args.who c.args.core.now c.advance_on.new.core c.in-Running-self.task c.advance_on.new.self
-    c.advance_on.ensures (subst (IsOfStage s) (c.in-Running.is ∙ c.in-Running-self.is) of)
+    advances_of_stage s c.in-Running-self.stage c.args.who c.args.core.now c.step_on.new.core c.in-Running-self.task c.step_on.new.self
+    c.step_on.ensures.step (subst (IsOfStage s) (c.in-Running.is ∙ c.in-Running-self.is) of)
 
-pub returns-then-not-is_finished-clause-of_stage : goal.returns-then-not-is_finished-clause-of_stage
-returns-then-not-is_finished-clause-of_stage c = λ s of.
-    advances_of_stage s c.in-Running-self.stage c.args.who c.args.core.now c.advance_on.new.core c.in-Running-self.task c.advance_on.new.self
-    c.advance_on.ensures (subst (IsOfStage s) (c.in-Running.is ∙ c.in-Running-self.is) of)
+pub returns-then-not-step_on-clause-of_stage : goal.returns-then-not-step_on-clause-of_stage
+returns-then-not-step_on-clause-of_stage c = λ s of.
+    advances_of_stage s c.in-Running-self.stage c.args.who c.args.core.now c.step_on.new.core c.in-Running-self.task c.step_on.new.self
+    c.step_on.ensures.step (subst (IsOfStage s) (c.in-Running.is ∙ c.in-Running-self.is) of)
