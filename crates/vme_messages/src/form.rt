@@ -46,17 +46,21 @@ impl Counts {
 /// An allocation failed.
 pub fn summary(alloc: Global, counts: Counts, form: &Form) -> Result<String, AllocError> {
     let mut to = String::new(alloc);
-    push_count(counts.errors, "error", &mut to)?;
+    push_count(counts.errors as u64, "error", &mut to)?;
     if !form.no_warnings {
         to.push_str(", ")?;
-        push_count(counts.warnings, "warning", &mut to)?;
+        push_count(counts.warnings as u64, "warning", &mut to)?;
     }
     to.push('\n')?;
     Ok(to)
 }
 
 /// Appends a count and the word for what is counted, in the plural unless the count is 1.
-fn push_count(count: usize, thing: &str, to: &mut String) -> Result<(), AllocError> {
+///
+/// # Errors
+///
+/// An allocation failed.
+pub(crate) fn push_count(count: u64, thing: &str, to: &mut String) -> Result<(), AllocError> {
     let plural = if count == 1 { "" } else { "s" };
     write!(to, "{count} {thing}{plural}")
 }

@@ -1,11 +1,12 @@
 //! The texts of findings: for each cause a message, and for some a help.
 //!
-//! A message and a help are one line without a line end. Words of the file are quoted as
-//! [`push_quoted`](quote::push_quoted) writes them.
+//! A message and a help are one line without a line end. Each is data, a text and the values in it,
+//! and one function prints them all.
 
 mod board;
 mod cycle;
 mod document;
+mod help;
 mod line;
 mod mailbox;
 mod message;
@@ -17,8 +18,11 @@ mod warning;
 
 use crate::context::Context;
 use crate::located::{Input, Located};
+use crate::texts::help::{Help, push_help};
+use crate::texts::message::{Message, plain, push_message};
+use crate::texts::names::number_of;
 use std::alloc::AllocError;
-use vme_faults::Cause;
+use vme_faults::{Cause, LineWarning};
 use vme_positions::Place;
 
 /// Appends the message of a finding.
@@ -31,21 +35,34 @@ pub(crate) fn write_message(
     context: &Context<'_>,
     to: &mut String,
 ) -> Result<(), AllocError> {
+    push_message(&message_of(cause, context), to)?;
+    to.push_str(ending_of(cause))
+}
+
+/// The message of a cause, without its ending.
+fn message_of<'a>(cause: Cause, context: &Context<'a>) -> Message<'a> {
     match cause {
-        Cause::Document(cause) => document::write_message(cause, context, to),
-        Cause::Board(cause) => board::write_message(cause, context, to),
-        Cause::Schedule(cause) => schedule::write_message(cause, context, to),
-        Cause::Mailbox(cause) => mailbox::write_message(cause, context, to),
-        Cause::Script { cause, .. } | Cause::RequestLine(cause) => {
-            line::write_message(cause, context, to)
-        }
-        Cause::Refused(_) => refused::write_message(cause, to),
-        Cause::File(warning) => warning::write_message(warning, context, to),
-        Cause::Line { warning, .. } => warning::write_line_message(warning, to),
-        Cause::RequestCycle(cause) => cycle::write_message(cause, to),
-        Cause::RequestBoard => {
-            to.push_str("the board of `cycles` has a32 0 to fff: always berr 0")
-        }
+        Cause::Document(cause) => document::message_of(cause, context),
+        Cause::Board(cause) => board::message_of(cause, context),
+        Cause::Schedule(cause) => schedule::message_of(cause, context),
+        Cause::Mailbox(cause) => mailbox::message_of(cause, context),
+        Cause::Script { cause, .. } | Cause::RequestLine(cause) => line::message_of(cause, context),
+        Cause::Refused(_) => refused::message_of(cause),
+        Cause::File(warning) => warning::message_of(warning, context),
+        Cause::Line { warning, .. } => warning::line_message(warning),
+        Cause::RequestCycle(cause) => cycle::message_of(cause),
+        Cause::RequestBoard => plain("the board of `cycles` has a32 0 to fff: always berr 0"),
+    }
+}
+
+/// What follows the message of a cause: that a line's request is refused each time.
+fn ending_of(cause: Cause) -> &'static str {
+    match cause {
+        Cause::Line {
+            warning: LineWarning::AlwaysRefused(_),
+            ..
+        } => ": always refused",
+        _ => "",
     }
 }
 
@@ -59,18 +76,21 @@ pub(crate) fn write_help(
     context: &Context<'_>,
     to: &mut String,
 ) -> Result<(), AllocError> {
+    push_help(&help_of(cause, context), context, to)
+}
+
+/// The help of a cause.
+fn help_of<'a>(cause: Cause, context: &Context<'a>) -> Help<'a> {
     match cause {
-        Cause::Document(cause) => document::write_help(cause, context, to),
-        Cause::Board(cause) => board::write_help(cause, context, to),
-        Cause::Schedule(cause) => schedule::write_help(cause, context, to),
-        Cause::Mailbox(cause) => mailbox::write_help(cause, to),
-        Cause::Script { cause, .. } | Cause::RequestLine(cause) => {
-            line::write_help(cause, context, to)
-        }
-        Cause::File(warning) => warning::write_help(warning, to),
-        Cause::Line { warning, .. } => warning::write_line_help(warning, to),
-        Cause::RequestCycle(cause) => cycle::write_help(cause, to),
-        Cause::Refused(_) | Cause::RequestBoard => Ok(()),
+        Cause::Document(cause) => document::help_of(cause, context),
+        Cause::Board(cause) => board::help_of(cause, context),
+        Cause::Schedule(cause) => schedule::help_of(cause, context),
+        Cause::Mailbox(cause) => mailbox::help_of(cause),
+        Cause::Script { cause, .. } | Cause::RequestLine(cause) => line::help_of(cause, context),
+        Cause::File(warning) => warning::help_of(warning),
+        Cause::Line { warning, .. } => warning::line_help(warning),
+        Cause::RequestCycle(cause) => cycle::help_of(cause),
+        Cause::Refused(_) | Cause::RequestBoard => Help::None,
     }
 }
 
@@ -89,21 +109,26 @@ pub(crate) fn note_offset(input: &Input<'_>, one: &Located) -> Option<usize> {
 ///
 /// An allocation failed.
 pub(crate) fn write_note(cause: Cause, to: &mut String) -> Result<(), AllocError> {
+    push_message(&note_of(cause), to)
+}
+
+/// The text of the note of a cause.
+fn note_of(cause: Cause) -> Message<'static> {
     match cause {
-        Cause::Document(cause) => document::write_note(cause, to),
-        Cause::Board(cause) => board::write_note(cause, to),
-        Cause::Mailbox(cause) => mailbox::write_note(cause, to),
-        _ => Ok(()),
+        Cause::Document(cause) => document::note_of(cause),
+        Cause::Board(cause) => board::note_of(cause),
+        Cause::Mailbox(cause) => mailbox::note_of(cause),
+        _ => plain(""),
     }
 }
 
 /// The number of the mailbox of a place, from 1.
-fn mailbox_number(place: Place) -> usize {
+fn mailbox_number(place: Place) -> u64 {
     match place {
         Place::Table { index, .. }
         | Place::Key { index, .. }
         | Place::Value { index, .. }
-        | Place::Unknown { index, .. } => index.saturating_add(1),
+        | Place::Unknown { index, .. } => number_of(index),
         _ => 0,
     }
 }

@@ -1,55 +1,60 @@
 //! The texts of faults of a board.
 use crate::context::Context;
-use crate::texts::names::{push_board, space_name};
-use crate::texts::quote::{push_quoted, without_quotes};
-use std::alloc::AllocError;
-use std::fmt::Write;
+use crate::texts::help::Help;
+use crate::texts::message::{Message, Value, plain, with, with_three, with_two};
+use crate::texts::names::{board_name, space_name};
+use crate::texts::quote::without_quotes;
 use vme_faults::BoardCause;
 
-/// Appends the message of a cause.
-///
-/// # Errors
-///
-/// An allocation failed.
-pub(crate) fn write_message(
-    cause: BoardCause,
-    context: &Context<'_>,
-    to: &mut String,
-) -> Result<(), AllocError> {
+/// The message of a cause.
+pub(crate) fn message_of<'a>(cause: BoardCause, context: &Context<'a>) -> Message<'a> {
     match cause {
-        BoardCause::SlotRange { slot } => write!(to, "slot {slot}; a backplane has slots 1 to 21"),
-        BoardCause::SlotTaken { slot, .. } => write!(to, "a second board in slot {slot}"),
-        BoardCause::SlotOrder { slot, before, .. } => write!(
-            to,
-            "slot {slot} after slot {before}; boards are listed in rising order of slots"
+        BoardCause::SlotRange { slot } => with(
+            "slot {}; a backplane has slots 1 to 21",
+            Value::Number(u64::from(slot)),
         ),
-        BoardCause::LevelRange { level } => {
-            write!(to, "level {level}; a bus request level is 0 to 3")
+        BoardCause::SlotTaken { slot, .. } => {
+            with("a second board in slot {}", Value::Number(u64::from(slot)))
         }
-        BoardCause::NoSpace => {
-            push_quoted(without_quotes(context.word), to)?;
-            to.push_str(" is not an address space; `a16`, `a24` and `a32` are")
-        }
-        BoardCause::NoWidth { width } => {
-            write!(to, "width {width}; a slave has 8, 16 or 32 data lines")
-        }
-        BoardCause::UnalignedWidth { width } => write!(
-            to,
-            "unaligned transfers (`uat`) with {width} data lines; they require 32"
+        BoardCause::SlotOrder { slot, before, .. } => with_two(
+            "slot {} after slot {}; boards are listed in rising order of slots",
+            Value::Number(u64::from(slot)),
+            Value::Number(u64::from(before)),
         ),
-        BoardCause::SizeRange { size } => {
-            write!(to, "size {size}; a board has 4 to 1048576 bytes")
-        }
-        BoardCause::SizeNotAligned { size } => write!(to, "size {size} is not a multiple of 4"),
-        BoardCause::BaseNotAligned { base } => write!(to, "base 0x{base:x} is not a multiple of 4"),
-        BoardCause::OutsideSpace { space, last } => {
-            let end = space.addresses().saturating_sub(1);
-            let space = space_name(space);
-            write!(
-                to,
-                "the board ends at {last:x}; space {space} ends at {end:x}"
-            )
-        }
+        BoardCause::LevelRange { level } => with(
+            "level {}; a bus request level is 0 to 3",
+            Value::Number(u64::from(level)),
+        ),
+        BoardCause::NoSpace => with(
+            "{} is not an address space; `a16`, `a24` and `a32` are",
+            Value::Quoted(without_quotes(context.word)),
+        ),
+        BoardCause::NoWidth { width } => with(
+            "width {}; a slave has 8, 16 or 32 data lines",
+            Value::Number(u64::from(width)),
+        ),
+        BoardCause::UnalignedWidth { width } => with(
+            "unaligned transfers (`uat`) with {} data lines; they require 32",
+            Value::Number(u64::from(width)),
+        ),
+        BoardCause::SizeRange { size } => with(
+            "size {}; a board has 4 to 1048576 bytes",
+            Value::Number(u64::from(size)),
+        ),
+        BoardCause::SizeNotAligned { size } => with(
+            "size {} is not a multiple of 4",
+            Value::Number(u64::from(size)),
+        ),
+        BoardCause::BaseNotAligned { base } => with(
+            "base 0x{} is not a multiple of 4",
+            Value::Hex(u64::from(base)),
+        ),
+        BoardCause::OutsideSpace { space, last } => with_three(
+            "the board ends at {}; space {} ends at {}",
+            Value::Hex(last),
+            Value::Word(space_name(space)),
+            Value::Hex(space.addresses().saturating_sub(1)),
+        ),
         BoardCause::Overlap {
             board,
             other_board,
@@ -57,61 +62,63 @@ pub(crate) fn write_message(
             low,
             high,
             ..
-        } => {
-            push_board(board, to)?;
-            to.push_str(" and ")?;
-            push_board(other_board, to)?;
-            let space = space_name(space);
-            write!(to, " overlap at {space} {low:x} to {high:x}")
-        }
+        } => Message {
+            text: "{} and {} overlap at {} {} to {}",
+            values: [
+                board_name(board),
+                board_name(other_board),
+                Value::Word(space_name(space)),
+                Value::Hex(u64::from(low)),
+                Value::Hex(u64::from(high)),
+                Value::None,
+            ],
+        },
     }
 }
 
-/// Appends the help of a cause, or nothing.
-///
-/// # Errors
-///
-/// An allocation failed.
-pub(crate) fn write_help(
-    cause: BoardCause,
-    context: &Context<'_>,
-    to: &mut String,
-) -> Result<(), AllocError> {
+/// The help of a cause.
+pub(crate) fn help_of(cause: BoardCause, context: &Context<'_>) -> Help<'static> {
     match cause {
         BoardCause::NoSpace => match without_quotes(context.word) {
-            b"A16" => to.push_str("write \"a16\""),
-            b"A24" => to.push_str("write \"a24\""),
-            b"A32" => to.push_str("write \"a32\""),
-            _ => Ok(()),
+            b"A16" => Help::Says(plain("write \"a16\"")),
+            b"A24" => Help::Says(plain("write \"a24\"")),
+            b"A32" => Help::Says(plain("write \"a32\"")),
+            _ => Help::None,
         },
         BoardCause::SizeNotAligned { size } => {
             let next = u64::from(size / 4).saturating_add(1).saturating_mul(4);
-            write!(to, "the next multiple is {next}")
+            Help::Says(with("the next multiple is {}", Value::Number(next)))
         }
-        _ => Ok(()),
+        _ => Help::None,
     }
 }
 
-/// Appends the text of the note at the other board.
-///
-/// # Errors
-///
-/// An allocation failed.
-pub(crate) fn write_note(cause: BoardCause, to: &mut String) -> Result<(), AllocError> {
+/// The text of the note at the other board.
+pub(crate) fn note_of(cause: BoardCause) -> Message<'static> {
     match cause {
-        BoardCause::SlotTaken { slot, .. } => write!(to, "slot {slot} is here"),
-        BoardCause::SlotOrder { before, .. } => write!(to, "slot {before} is here"),
+        BoardCause::SlotTaken { slot, .. } => {
+            with("slot {} is here", Value::Number(u64::from(slot)))
+        }
+        BoardCause::SlotOrder { before, .. } => {
+            with("slot {} is here", Value::Number(u64::from(before)))
+        }
         BoardCause::Overlap {
             other_board,
             space,
             other_low,
             other_high,
             ..
-        } => {
-            push_board(other_board, to)?;
-            let space = space_name(space);
-            write!(to, " has {space} {other_low:x} to {other_high:x}")
-        }
-        _ => Ok(()),
+        } => Message {
+            text: "{} has {} {} to {}",
+            values: [
+                board_name(other_board),
+                Value::Word(space_name(space)),
+                Value::Hex(u64::from(other_low)),
+                Value::Hex(u64::from(other_high)),
+                Value::None,
+                Value::None,
+            ],
+        },
+        _ => plain(""),
     }
 }

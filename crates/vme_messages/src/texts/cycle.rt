@@ -1,40 +1,36 @@
 //! The texts of refusals of requests, K1 to K9.
-use crate::texts::message::{Message, Value, push_message, with, with_two};
+use crate::texts::help::Help;
+use crate::texts::message::{Message, Value, with, with_three, with_two};
 use crate::texts::names::space_name;
-use std::alloc::AllocError;
-use std::fmt::Write;
 use vme_faults::CycleCause;
 
-/// Appends the message of a cause.
-///
-/// # Errors
-///
-/// An allocation failed.
-pub(crate) fn write_message(cause: CycleCause, to: &mut String) -> Result<(), AllocError> {
-    push_message(&message_of(cause), to)
-}
-
 /// The message of a cause.
-fn message_of(cause: CycleCause) -> Message {
+pub(crate) fn message_of(cause: CycleCause) -> Message<'static> {
     match cause {
         CycleCause::NoCode { am } => with(
             "code {} is above 3f: an address modifier has six bits",
-            Value::Code(am),
+            Value::Code(u32::from(am)),
         ),
         CycleCause::UserCode { am } => with(
             "code {} is user-defined (10 to 1f); this master does not send it",
-            Value::Code(am),
+            Value::Code(u32::from(am)),
         ),
-        CycleCause::ReservedCode { am } => with("code {} is reserved", Value::Code(am)),
+        CycleCause::ReservedCode { am } => with("code {} is reserved", Value::Code(u32::from(am))),
         CycleCause::BlockCode { am } => with(
             "code {} is a block code, and this request is not a block",
-            Value::Code(am),
+            Value::Code(u32::from(am)),
         ),
         CycleCause::NoBlockCode { am } => {
-            with("code {} of this block is not a block code", Value::Code(am))
+            with(
+                "code {} of this block is not a block code",
+                Value::Code(u32::from(am)),
+            )
         }
         CycleCause::ProgramModify { am } => {
-            with("read-modify-write with program code {}", Value::Code(am))
+            with(
+                "read-modify-write with program code {}",
+                Value::Code(u32::from(am)),
+            )
         }
         CycleCause::SingleLength { bytes } => with(
             "a single cycle carries 1 to 4 bytes, not {}",
@@ -46,12 +42,12 @@ fn message_of(cause: CycleCause) -> Message {
         ),
         CycleCause::DatumLength { am, bytes } => with_two(
             "a datum of a block with code {} has 1, 2 or 4 bytes, not {}",
-            Value::Code(am),
+            Value::Code(u32::from(am)),
             Value::Number(bytes as u64),
         ),
         CycleCause::WideLength { am, bytes } => with_two(
             "a datum with code {} has 8 bytes, not {}",
-            Value::Code(am),
+            Value::Code(u32::from(am)),
             Value::Number(bytes as u64),
         ),
         CycleCause::DataCount { data } => with(
@@ -63,14 +59,12 @@ fn message_of(cause: CycleCause) -> Message {
             Value::Number(bytes as u64),
             Value::Number(u64::from(datum)),
         ),
-        CycleCause::OutsideSpace { space, last } => Message {
-            text: "the last byte, {}, is outside space {} (0 to {})",
-            values: [
-                Value::Address(last),
-                Value::Word(space_name(space)),
-                Value::Hex(space.addresses().saturating_sub(1)),
-            ],
-        },
+        CycleCause::OutsideSpace { space, last } => with_three(
+            "the last byte, {}, is outside space {} (0 to {})",
+            Value::Address(last),
+            Value::Word(space_name(space)),
+            Value::Hex(space.addresses().saturating_sub(1)),
+        ),
         CycleCause::NoLocation { addr, bytes } => with_two(
             "no cycle has {} bytes at {}",
             Value::Number(u64::from(bytes)),
@@ -85,36 +79,29 @@ fn message_of(cause: CycleCause) -> Message {
             addr,
             last,
             boundary,
-        } => Message {
-            text: "the block from {} to {} crosses a boundary of {} bytes",
-            values: [
-                Value::Address(u64::from(addr)),
-                Value::Address(last),
-                Value::Number(u64::from(boundary)),
-            ],
-        },
+        } => with_three(
+            "the block from {} to {} crosses a boundary of {} bytes",
+            Value::Address(u64::from(addr)),
+            Value::Address(last),
+            Value::Number(u64::from(boundary)),
+        ),
     }
 }
 
-/// Appends the help of a cause, or nothing.
-///
-/// # Errors
-///
-/// An allocation failed.
-pub(crate) fn write_help(cause: CycleCause, to: &mut String) -> Result<(), AllocError> {
+/// The help of a cause.
+pub(crate) fn help_of(cause: CycleCause) -> Help<'static> {
     match cause {
-        CycleCause::BlockCode { am } => push_code(data_code(am), to),
-        CycleCause::NoBlockCode { am } => push_code(block_code(am), to),
-        CycleCause::ProgramModify { am } => push_code(data_code(am), to),
-        _ => Ok(()),
+        CycleCause::BlockCode { am } | CycleCause::ProgramModify { am } => code_help(data_code(am)),
+        CycleCause::NoBlockCode { am } => code_help(block_code(am)),
+        _ => Help::None,
     }
 }
 
-/// Appends the code to write, if there is one.
-fn push_code(code: Option<u8>, to: &mut String) -> Result<(), AllocError> {
+/// The help to write a code, if there is one.
+fn code_help(code: Option<u8>) -> Help<'static> {
     match code {
-        Some(code) => write!(to, "write {code:02x}"),
-        None => Ok(()),
+        Some(code) => Help::Says(with("write {}", Value::Code(u32::from(code)))),
+        None => Help::None,
     }
 }
 

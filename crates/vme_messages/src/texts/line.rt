@@ -1,98 +1,80 @@
 //! The texts of refusals of lines, S1 to S9.
 use crate::context::Context;
-use crate::texts::names::{near_command, near_function, push_board};
-use crate::texts::quote::push_quoted;
-use std::alloc::AllocError;
-use std::fmt::Write;
+use crate::texts::help::Help;
+use crate::texts::message::{Message, Value, plain, with, with_three, with_two};
+use crate::texts::names::{FUNCTIONS, LONG_COMMANDS, board_name, number_of, short_command};
 use vme_faults::{DataLength, LineCause, LineForm};
 
 /// The number of digits of an address.
 const ADDRESS_DIGITS: usize = 8;
 
-/// Appends the message of a cause.
-///
-/// # Errors
-///
-/// An allocation failed.
-pub(crate) fn write_message(
-    cause: LineCause,
-    context: &Context<'_>,
-    to: &mut String,
-) -> Result<(), AllocError> {
-    let word = context.word;
+/// The message of a cause.
+pub(crate) fn message_of<'a>(cause: LineCause, context: &Context<'a>) -> Message<'a> {
+    let word = Value::Quoted(context.word);
     match cause {
-        LineCause::TooLong { bytes } => {
-            write!(to, "the line has {bytes} bytes; a line has at most 80")
-        }
-        LineCause::UnknownCommand => push_about("", word, " is not a command", to),
-        LineCause::IndentedComment => {
-            to.push_str("a comment begins in the first column of its line")
-        }
-        LineCause::ScriptCommand { .. } => push_about(
-            "",
+        LineCause::TooLong { bytes } => with(
+            "the line has {} bytes; a line has at most 80",
+            Value::Number(bytes as u64),
+        ),
+        LineCause::UnknownCommand => with("{} is not a command", word),
+        LineCause::IndentedComment => plain("a comment begins in the first column of its line"),
+        LineCause::ScriptCommand { .. } => with(
+            "{} is a command of scripts; `cycles` takes r, w, br, bw, bf and m",
             word,
-            " is a command of scripts; `cycles` takes r, w, br, bw, bf and m",
-            to,
         ),
         LineCause::UnknownFunction => {
-            push_about(
-                "",
-                word,
-                " is not a function; set, xchg, add and cas are",
-                to,
-            )
+            with("{} is not a function; set, xchg, add and cas are", word)
         }
         LineCause::WordCount {
             form,
             wanted,
             found,
-        } => {
-            let words = form_words(form);
-            let command = command_of(form);
-            let plural = if wanted == 1 { "" } else { "s" };
-            write!(
-                to,
-                "`{words}` has {wanted} word{plural} after `{command}`; this line has {found}"
-            )
-        }
-        LineCause::BadCode => push_about(
-            "address modifier ",
-            word,
-            " is not two hexadecimal digits",
-            to,
+        } => Message {
+            text: "`{}` has {} after `{}`; this line has {}",
+            values: [
+                Value::Word(form_words(form)),
+                Value::Count(wanted as u64, "word"),
+                Value::Word(command_of(form)),
+                Value::Number(found as u64),
+                Value::None,
+                Value::None,
+            ],
+        },
+        LineCause::BadCode => with("address modifier {} is not two hexadecimal digits", word),
+        LineCause::BadAddress => address_message(
+            "address {} is not eight hexadecimal digits",
+            "address {} has {}; it takes 8",
+            context.word,
         ),
-        LineCause::BadAddress => push_address("address ", word, to),
-        LineCause::BadOffset => push_address("offset ", word, to),
-        LineCause::BadByteCount => push_about("number of bytes ", word, " is not 1 to 8", to),
-        LineCause::BadLocalByteCount => {
-            push_about("number of bytes ", word, " is not 1, 2 or 4", to)
-        }
-        LineCause::BadDataCount => {
-            push_about("count ", word, " is not one to four decimal digits", to)
-        }
-        LineCause::BadMailboxNumber => push_about(
-            "mailbox number ",
-            word,
-            " is not one or two decimal digits",
-            to,
+        LineCause::BadOffset => address_message(
+            "offset {} is not eight hexadecimal digits",
+            "offset {} has {}; it takes 8",
+            context.word,
         ),
-        LineCause::NoMailbox { number, declared } => push_no_mailbox(number, declared, to),
-        LineCause::NoHexDigits => { push_about("bytes ", word, " are not hexadecimal digits", to) }
-        LineCause::OddDigits { digits } => {
-            push_about("bytes ", word, " have ", to)?;
-            write!(to, "{digits} digits, an odd number; a byte has two")
+        LineCause::BadByteCount => with("number of bytes {} is not 1 to 8", word),
+        LineCause::BadLocalByteCount => with("number of bytes {} is not 1, 2 or 4", word),
+        LineCause::BadDataCount => with("count {} is not one to four decimal digits", word),
+        LineCause::BadMailboxNumber => {
+            with("mailbox number {} is not one or two decimal digits", word)
         }
+        LineCause::NoMailbox { number, declared } => {
+            no_mailbox(Value::Number(u64::from(number)), declared as u64)
+        }
+        LineCause::NoHexDigits => with("bytes {} are not hexadecimal digits", word),
+        LineCause::OddDigits { digits } => with_two(
+            "bytes {} have {} digits, an odd number; a byte has two",
+            word,
+            Value::Number(digits as u64),
+        ),
         LineCause::WrongLength {
             form,
             found,
             wanted,
-        } => push_wrong_length(form, found, wanted, word, to),
-        LineCause::TooManyLines { lines } => {
-            write!(
-                to,
-                "the script has {lines} lines; a script has at most 1000"
-            )
-        }
+        } => wrong_length(form, Value::Count(found as u64, "byte"), wanted, word),
+        LineCause::TooManyLines { lines } => with(
+            "the script has {} lines; a script has at most 1000",
+            Value::Number(lines as u64),
+        ),
         LineCause::TouchesMailbox {
             board,
             low,
@@ -100,146 +82,159 @@ pub(crate) fn write_message(
             mailbox,
             mailbox_low,
             mailbox_high,
-        } => {
-            let number = mailbox.saturating_add(1);
-            write!(to, "bytes {low:08x} to {high:08x} of ")?;
-            push_board(board, to)?;
-            write!(
-                to,
-                " touch mailbox {number} ({mailbox_low:08x} to {mailbox_high:08x})"
+        } => Message {
+            text: "bytes {} to {} of {} touch mailbox {} ({} to {})",
+            values: [
+                Value::Address(u64::from(low)),
+                Value::Address(u64::from(high)),
+                board_name(board),
+                Value::Number(number_of(mailbox)),
+                Value::Address(u64::from(mailbox_low)),
+                Value::Address(u64::from(mailbox_high)),
+            ],
+        },
+    }
+}
+
+/// The message about an address or an offset: that it has another number of digits, if it has
+/// digits alone, or else that it is not a number.
+fn address_message<'a>(
+    no_number: &'static str,
+    other_count: &'static str,
+    word: &'a [u8],
+) -> Message<'a> {
+    let digits = word.len() as u64;
+    if are_hex_digits(word) {
+        with_two(
+            other_count,
+            Value::Quoted(word),
+            Value::Count(digits, "digit"),
+        )
+    } else {
+        with(no_number, Value::Quoted(word))
+    }
+}
+
+/// The message that a mailbox is not declared, by how many are.
+fn no_mailbox(number: Value<'static>, declared: u64) -> Message<'static> {
+    match declared {
+        0 => with("mailbox {} is not declared; the file declares none", number),
+        1 => with("mailbox {} is not declared; the file declares 1", number),
+        _ => with_two(
+            "mailbox {} is not declared; the file declares 1 to {}",
+            number,
+            Value::Number(declared),
+        ),
+    }
+}
+
+/// The message about how many bytes a word is, and how many the command takes.
+fn wrong_length<'a>(
+    form: LineForm,
+    found: Value<'a>,
+    wanted: DataLength,
+    word: Value<'a>,
+) -> Message<'a> {
+    let command = Value::Word(command_of(form));
+    match wanted {
+        DataLength::Exactly(count) => Message {
+            text: if has_length_word(form) {
+                "{} is {}; `{}` takes {} here (N = {})"
+            } else {
+                "{} is {}; `{}` takes {}"
+            },
+            values: [
+                word,
+                found,
+                command,
+                Value::Count(u64::from(count), "byte"),
+                Value::Number(u64::from(count)),
+                Value::None,
+            ],
+        },
+        DataLength::UpTo8 => with_three("{} is {}; `{}` takes 1 to 8 bytes", word, found, command),
+        DataLength::PowerOfTwo => {
+            with_three("{} is {}; `{}` takes 1, 2 or 4 bytes", word, found, command)
+        }
+        DataLength::Any => {
+            with_three(
+                "{} is {}; `{}` takes one byte or more",
+                word,
+                found,
+                command,
             )
         }
     }
 }
 
-/// Appends the help of a cause, or nothing.
-///
-/// # Errors
-///
-/// An allocation failed.
-pub(crate) fn write_help(
-    cause: LineCause,
-    context: &Context<'_>,
-    to: &mut String,
-) -> Result<(), AllocError> {
+/// The help of a cause.
+pub(crate) fn help_of<'a>(cause: LineCause, context: &Context<'a>) -> Help<'a> {
     let word = context.word;
     match cause {
         LineCause::TooLong { .. } => match context.line {
-            [b'#', ..] => to.push_str("split the comment into several lines, each with its own #"),
-            [b'b', b'w', b' ', ..] => to.push_str(
+            [b'#', ..] => Help::Says(plain(
+                "split the comment into several lines, each with its own #",
+            )),
+            [b'b', b'w', b' ', ..] => Help::Says(plain(
                 "split the block: `bw .. 4 HEX` carries at most 28 bytes in a line",
-            ),
-            _ => Ok(()),
+            )),
+            _ => Help::None,
         },
-        LineCause::UnknownCommand => write_command_help(context, to),
-        LineCause::IndentedComment => to.push_str("remove the spaces before #"),
-        LineCause::UnknownFunction => match near_function(context.alloc, word)? {
-            Some(name) => write!(to, "did you mean `{name}`?"),
-            None => Ok(()),
+        LineCause::UnknownCommand => command_help(word),
+        LineCause::IndentedComment => Help::Says(plain("remove the spaces before #")),
+        LineCause::UnknownFunction => Help::Similar {
+            names: FUNCTIONS.as_slice(),
+            otherwise: None,
         },
         LineCause::WordCount { wanted, found, .. } => {
             if wanted < found && matches!(word, [b'#' | b';' | b'/', ..]) {
-                to.push_str("a comment needs a line of its own")
+                Help::Says(plain("a comment needs a line of its own"))
             } else {
-                Ok(())
+                Help::None
             }
         }
-        LineCause::BadCode => write_padded(word, 2, to),
-        LineCause::BadAddress | LineCause::BadOffset => write_padded(word, ADDRESS_DIGITS, to),
-        LineCause::OddDigits { digits } => write_padded(word, digits.saturating_add(1), to),
-        LineCause::TouchesMailbox { .. } => {
-            to.push_str("only put and take may access the bytes of a mailbox")
-        }
-        _ => Ok(()),
+        LineCause::BadCode => padded_help(word, 2),
+        LineCause::BadAddress | LineCause::BadOffset => padded_help(word, ADDRESS_DIGITS),
+        LineCause::OddDigits { digits } => padded_help(word, digits.saturating_add(1)),
+        LineCause::TouchesMailbox { .. } => Help::Says(plain(
+            "only put and take may access the bytes of a mailbox",
+        )),
+        _ => Help::None,
     }
 }
 
-/// Appends the help for a word that is not a command, or nothing.
-fn write_command_help(context: &Context<'_>, to: &mut String) -> Result<(), AllocError> {
-    let word = context.word;
+/// The help for a word that is not a command.
+fn command_help(word: &[u8]) -> Help<'static> {
     if word.contains(&b'\t') {
-        return to.push_str("spaces separate words; here is a tab");
+        return Help::Says(plain("spaces separate words; here is a tab"));
     }
     if matches!(word, [b';', ..] | [b'/', b'/', ..] | [b'-', b'-', ..]) {
-        return to.push_str("a comment is a line that begins with #");
+        return Help::Says(plain("a comment is a line that begins with #"));
     }
-    match near_command(context.alloc, word)? {
-        Some(name) => write!(to, "did you mean `{name}`?"),
-        None => Ok(()),
+    if let Some(command) = short_command(word) {
+        return Help::Says(with("did you mean `{}`?", Value::Word(command)));
     }
-}
-
-/// Appends a word in backquotes between two texts.
-fn push_about(before: &str, word: &[u8], after: &str, to: &mut String) -> Result<(), AllocError> {
-    to.push_str(before)?;
-    push_quoted(word, to)?;
-    to.push_str(after)
-}
-
-/// Appends what is wrong with an address or an offset.
-fn push_address(name: &str, word: &[u8], to: &mut String) -> Result<(), AllocError> {
-    to.push_str(name)?;
-    push_quoted(word, to)?;
-    if !are_hex_digits(word) {
-        return to.push_str(" is not eight hexadecimal digits");
+    if word.len() < 3 {
+        return Help::None;
     }
-    let digits = word.len();
-    let plural = if digits == 1 { "" } else { "s" };
-    write!(to, " has {digits} digit{plural}; it takes 8")
-}
-
-/// Appends that a mailbox is not declared.
-fn push_no_mailbox(number: u8, declared: usize, to: &mut String) -> Result<(), AllocError> {
-    write!(to, "mailbox {number} is not declared; the file declares ")?;
-    match declared {
-        0 => to.push_str("none"),
-        1 => to.push('1'),
-        _ => write!(to, "1 to {declared}"),
+    Help::Similar {
+        names: LONG_COMMANDS.as_slice(),
+        otherwise: None,
     }
 }
 
-/// Appends how many bytes a word is, and how many the command takes.
-fn push_wrong_length(
-    form: LineForm,
-    found: usize,
-    wanted: DataLength,
-    word: &[u8],
-    to: &mut String,
-) -> Result<(), AllocError> {
-    push_quoted(word, to)?;
-    let bytes = if found == 1 { "byte" } else { "bytes" };
-    let command = command_of(form);
-    write!(to, " is {found} {bytes}; `{command}` takes ")?;
-    match wanted {
-        DataLength::Exactly(count) => {
-            let bytes = if count == 1 { "byte" } else { "bytes" };
-            write!(to, "{count} {bytes}")?;
-            if has_length_word(form) {
-                write!(to, " here (N = {count})")?;
-            }
-            Ok(())
-        }
-        DataLength::UpTo8 => to.push_str("1 to 8 bytes"),
-        DataLength::PowerOfTwo => to.push_str("1, 2 or 4 bytes"),
-        DataLength::Any => to.push_str("one byte or more"),
-    }
-}
-
-/// Appends the digits of a word with zeros before them, if it is hexadecimal and has fewer digits
+/// The help to write zeros before the digits of a word, if it is hexadecimal and has fewer digits
 /// than it takes, with or without `0x`.
-fn write_padded(word: &[u8], digits: usize, to: &mut String) -> Result<(), AllocError> {
+fn padded_help(word: &[u8], digits: usize) -> Help<'_> {
     let bare = word.strip_prefix(b"0x").unwrap_or(word);
     if bare.is_empty() || digits < bare.len() || !are_hex_digits(bare) {
-        return Ok(());
+        return Help::None;
     }
-    to.push_str("write `")?;
-    for _ in bare.len()..digits {
-        to.push('0')?;
-    }
-    for byte in bare {
-        to.push(char::from(*byte))?;
-    }
-    to.push('`')
+    Help::Says(with_two(
+        "write `{}{}`",
+        Value::Zeros(digits - bare.len()),
+        Value::Chars(bare),
+    ))
 }
 
 fn are_hex_digits(word: &[u8]) -> bool {

@@ -1,114 +1,114 @@
 //! The texts of faults of a mailbox.
 use crate::context::Context;
+use crate::texts::help::Help;
 use crate::texts::mailbox_number;
-use crate::texts::names::{push_board, space_name};
-use std::alloc::AllocError;
-use std::fmt::Write;
+use crate::texts::message::{Message, Value, plain, with, with_three, with_two};
+use crate::texts::names::{board_name, number_of, space_name};
 use vme_faults::MailboxCause;
 
-/// Appends the message of a cause.
-///
-/// # Errors
-///
-/// An allocation failed.
-pub(crate) fn write_message(
-    cause: MailboxCause,
-    context: &Context<'_>,
-    to: &mut String,
-) -> Result<(), AllocError> {
-    let number = mailbox_number(context.place);
-    write!(to, "mailbox {number}")?;
+/// The message of a cause.
+pub(crate) fn message_of(cause: MailboxCause, context: &Context<'_>) -> Message<'static> {
+    let number = Value::Number(mailbox_number(context.place));
     match cause {
-        MailboxCause::TooManyMailboxes { mailboxes } => {
-            write!(to, "; a file declares at most 16, this one {mailboxes}")
-        }
-        MailboxCause::CodeRange { am } => {
-            let kind = kind_of(am);
-            write!(
-                to,
-                ": code {am:02x} is {kind}; it takes 09, 0d, 29, 2d, 39 or 3d"
-            )
-        }
-        MailboxCause::AddressNotAligned { addr } => {
-            write!(to, ": address 0x{addr:x} is not a multiple of 4")
-        }
-        MailboxCause::SlotsRange { slots } => write!(to, ": {slots} slots; it takes 1 to 64"),
-        MailboxCause::NoBoardThere { addr, space, .. } => {
-            let space = space_name(space);
-            write!(to, ": no {space} board at {addr:08x}")
-        }
-        MailboxCause::SupervisoryBoard { board, am, .. } => {
-            to.push_str(": ")?;
-            push_board(board, to)?;
-            write!(to, " is supervisory; code {am:02x} is not")
-        }
+        MailboxCause::TooManyMailboxes { mailboxes } => with_two(
+            "mailbox {}; a file declares at most 16, this one {}",
+            number,
+            Value::Number(mailboxes as u64),
+        ),
+        MailboxCause::CodeRange { am } => with_three(
+            "mailbox {}: code {} is {}; it takes 09, 0d, 29, 2d, 39 or 3d",
+            number,
+            Value::Code(am),
+            Value::Word(kind_of(am)),
+        ),
+        MailboxCause::AddressNotAligned { addr } => with_two(
+            "mailbox {}: address 0x{} is not a multiple of 4",
+            number,
+            Value::Hex(u64::from(addr)),
+        ),
+        MailboxCause::SlotsRange { slots } => with_two(
+            "mailbox {}: {} slots; it takes 1 to 64",
+            number,
+            Value::Number(u64::from(slots)),
+        ),
+        MailboxCause::NoBoardThere { addr, space, .. } => with_three(
+            "mailbox {}: no {} board at {}",
+            number,
+            Value::Word(space_name(space)),
+            Value::Address(u64::from(addr)),
+        ),
+        MailboxCause::SupervisoryBoard { board, am, .. } => with_three(
+            "mailbox {}: {} is supervisory; code {} is not",
+            number,
+            board_name(board),
+            Value::Code(u32::from(am)),
+        ),
         MailboxCause::TooLong {
             slots,
             needed,
             board,
             left,
-        } => {
-            write!(to, " takes {needed} bytes (16 + 4 x {slots}); ")?;
-            push_board(board, to)?;
-            write!(to, " has {left} from there")
-        }
-        MailboxCause::NarrowBoard { board, width } => {
-            to.push_str(": ")?;
-            push_board(board, to)?;
-            write!(to, " has {width} data lines; a mailbox requires 32")
-        }
-        MailboxCause::NoModify { board } => {
-            to.push_str(": ")?;
-            push_board(board, to)?;
-            to.push_str(" has no read-modify-write (`rmw`), which a mailbox requires")
-        }
-        MailboxCause::Shared { other, .. } => {
-            let other = other.saturating_add(1);
-            write!(to, " shares bytes with mailbox {other}")
-        }
+        } => Message {
+            text: "mailbox {} takes {} bytes (16 + 4 x {}); {} has {} from there",
+            values: [
+                number,
+                Value::Number(u64::from(needed)),
+                Value::Number(u64::from(slots)),
+                board_name(board),
+                Value::Number(u64::from(left)),
+                Value::None,
+            ],
+        },
+        MailboxCause::NarrowBoard { board, width } => with_three(
+            "mailbox {}: {} has {} data lines; a mailbox requires 32",
+            number,
+            board_name(board),
+            Value::Number(u64::from(width)),
+        ),
+        MailboxCause::NoModify { board } => with_two(
+            "mailbox {}: {} has no read-modify-write (`rmw`), which a mailbox requires",
+            number,
+            board_name(board),
+        ),
+        MailboxCause::Shared { other, .. } => with_two(
+            "mailbox {} shares bytes with mailbox {}",
+            number,
+            Value::Number(number_of(other)),
+        ),
     }
 }
 
-/// Appends the help of a cause, or nothing.
-///
-/// # Errors
-///
-/// An allocation failed.
-pub(crate) fn write_help(cause: MailboxCause, to: &mut String) -> Result<(), AllocError> {
+/// The help of a cause.
+pub(crate) fn help_of(cause: MailboxCause) -> Help<'static> {
     match cause {
         MailboxCause::NoBoardThere {
             am,
             space,
             there: Some(there),
             ..
-        } => {
-            let space = space_name(space);
-            let there = space_name(there);
-            write!(
-                to,
-                "code {am:02x} selects {space}; the board there is in {there}"
-            )
+        } => Help::Says(with_three(
+            "code {} selects {}; the board there is in {}",
+            Value::Code(u32::from(am)),
+            Value::Word(space_name(space)),
+            Value::Word(space_name(there)),
+        )),
+        MailboxCause::SupervisoryBoard { instead, .. } => {
+            Help::Says(with("write am = 0x{}", Value::Code(u32::from(instead))))
         }
-        MailboxCause::SupervisoryBoard { instead, .. } => write!(to, "write am = 0x{instead:02x}"),
-        _ => Ok(()),
+        _ => Help::None,
     }
 }
 
-/// Appends the text of the note at the other mailbox.
-///
-/// # Errors
-///
-/// An allocation failed.
-pub(crate) fn write_note(cause: MailboxCause, to: &mut String) -> Result<(), AllocError> {
+/// The text of the note at the other mailbox.
+pub(crate) fn note_of(cause: MailboxCause) -> Message<'static> {
     match cause {
-        MailboxCause::Shared { other, low, high } => {
-            let other = other.saturating_add(1);
-            write!(
-                to,
-                "mailbox {other} has {low:08x} to {high:08x} of its board"
-            )
-        }
-        _ => Ok(()),
+        MailboxCause::Shared { other, low, high } => with_three(
+            "mailbox {} has {} to {} of its board",
+            Value::Number(number_of(other)),
+            Value::Address(u64::from(low)),
+            Value::Address(u64::from(high)),
+        ),
+        _ => plain(""),
     }
 }
 

@@ -1,7 +1,7 @@
 //! Names of spaces, keys and commands in messages, and the names that are similar to a misspelt
 //! one.
+use crate::texts::message::Value;
 use std::alloc::{AllocError, Global};
-use std::fmt::Write;
 use std::str;
 use strsim::osa_distance;
 use vme_am::Space;
@@ -31,10 +31,10 @@ static MAILBOX_KEYS: [&str; 3] = ["am", "addr", "slots"];
 
 /// The commands that a misspelt word is compared with. Commands of one or two letters would be
 /// similar to any short word.
-static LONG_COMMANDS: [&str; 5] = ["await", "lock", "unlock", "put", "take"];
+pub(crate) static LONG_COMMANDS: [&str; 5] = ["await", "lock", "unlock", "put", "take"];
 
 /// The functions of a read-modify-write.
-static FUNCTIONS: [&str; 4] = ["set", "xchg", "add", "cas"];
+pub(crate) static FUNCTIONS: [&str; 4] = ["set", "xchg", "add", "cas"];
 
 /// The greatest length of a word that is compared with names.
 const LONGEST: usize = 16;
@@ -52,19 +52,17 @@ pub(crate) fn space_name(space: Space) -> &'static str {
     }
 }
 
-/// Appends the name of a board: its slot, or its number among the boards if the slot is refused.
-///
-/// # Errors
-///
-/// An allocation failed.
-pub(crate) fn push_board(board: BoardName, to: &mut String) -> Result<(), AllocError> {
+/// Returns the name of a board: its slot, or its number among the boards if the slot is refused.
+pub(crate) fn board_name(board: BoardName) -> Value<'static> {
     match board {
-        BoardName::Slot(slot) => write!(to, "slot {slot}"),
-        BoardName::Index(index) => {
-            let number = index.saturating_add(1);
-            write!(to, "board {number}")
-        }
+        BoardName::Slot(slot) => Value::Numbered("slot", u64::from(slot)),
+        BoardName::Index(index) => Value::Numbered("board", number_of(index)),
     }
+}
+
+/// Returns the number of what has this index: the first has the number 1.
+pub(crate) fn number_of(index: usize) -> u64 {
+    index.saturating_add(1) as u64
 }
 
 /// Returns the names of the keys of a table.
@@ -85,30 +83,8 @@ pub(crate) fn table_name(table: TableName) -> &'static str {
     }
 }
 
-/// Returns the key of a table that a word probably means: one with a similar name, or one with the
-/// same meaning.
-///
-/// # Errors
-///
-/// An allocation failed.
-pub(crate) fn near_key(
-    alloc: Global,
-    table: TableName,
-    word: &[u8],
-) -> Result<Option<&'static str>, AllocError> {
-    if let Some(name) = near(alloc, word, keys_of(table))? {
-        return Ok(Some(name));
-    }
-    Ok(other_word(table, word))
-}
-
-/// Returns the command that a word probably means: the same word in small letters, or a longer
-/// command with a similar name.
-///
-/// # Errors
-///
-/// An allocation failed.
-pub(crate) fn near_command(alloc: Global, word: &[u8]) -> Result<Option<&'static str>, AllocError> {
+/// Returns the command of one or two letters that is a word in small letters.
+pub(crate) fn short_command(word: &[u8]) -> Option<&'static str> {
     for (capital, command) in [
         (&b"R"[..], "r"),
         (&b"W"[..], "w"),
@@ -121,38 +97,29 @@ pub(crate) fn near_command(alloc: Global, word: &[u8]) -> Result<Option<&'static
         (&b"LM"[..], "lm"),
     ] {
         if word.eq_ignore_ascii_case(capital) {
-            return Ok(Some(command));
+            return Some(command);
         }
     }
-    if word.len() < 3 {
-        return Ok(None);
-    }
-    near(alloc, word, LONG_COMMANDS.as_slice())
+    None
 }
 
-/// Returns the function that a word probably means, if one has a similar name.
+/// Returns the first of the names with the fewest edits from a word in small letters, or
+/// `otherwise` if each name differs by too many.
 ///
 /// # Errors
 ///
 /// An allocation failed.
-pub(crate) fn near_function(
-    alloc: Global,
-    word: &[u8],
-) -> Result<Option<&'static str>, AllocError> {
-    near(alloc, word, FUNCTIONS.as_slice())
-}
-
-/// The first of the names with the fewest edits from a word in small letters, if they are few.
-fn near(
+pub(crate) fn near(
     alloc: Global,
     word: &[u8],
     names: &[&'static str],
+    otherwise: Option<&'static str>,
 ) -> Result<Option<&'static str>, AllocError> {
     if LONGEST < word.len() {
-        return Ok(None);
+        return Ok(otherwise);
     }
     let small = in_small_letters(alloc, word)?;
-    let mut best = None;
+    let mut best = otherwise;
     let mut fewest = usize::MAX;
     for name in names {
         let edits = osa_distance(alloc, small.as_str(), name)?;
@@ -178,8 +145,8 @@ fn most_edits(name: &str) -> usize {
     if name.len() <= SHORT { 1 } else { 2 }
 }
 
-/// The key of a table that has the same meaning as another word.
-fn other_word(table: TableName, word: &[u8]) -> Option<&'static str> {
+/// Returns the key of a table that has the same meaning as another word.
+pub(crate) fn other_word(table: TableName, word: &[u8]) -> Option<&'static str> {
     let name = str::from_utf8(word).ok()?;
     match table {
         TableName::File => match name {

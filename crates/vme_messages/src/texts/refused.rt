@@ -1,16 +1,12 @@
 //! The text of a refusal without a cause: that of `bendrika explain`.
-use std::alloc::AllocError;
+use crate::texts::message::{Message, Value, plain, with};
 use vme_explain::text_of;
 use vme_faults::Cause;
 
-/// Appends the title of the refusal.
-///
-/// # Errors
-///
-/// An allocation failed.
-pub(crate) fn write_message(cause: Cause, to: &mut String) -> Result<(), AllocError> {
+/// The title of the refusal.
+pub(crate) fn message_of(cause: Cause) -> Message<'static> {
     match text_of(cause.code()) {
-        Some(text) => to.push_str(text.title),
-        None => to.push_str("refused"),
+        Some(text) => with("{}", Value::Word(text.title)),
+        None => plain("refused"),
     }
 }

@@ -1,145 +1,159 @@
 //! The texts of warnings.
 use crate::context::Context;
 use crate::texts::cycle;
+use crate::texts::help::Help;
+use crate::texts::message::{Message, Value, plain, with, with_three, with_two};
 use crate::texts::names::space_name;
-use std::alloc::AllocError;
-use std::fmt::Write;
 use vme_faults::{FileWarning, Lack, LineWarning};
 use vme_positions::Place;
 
-/// Appends the message of a warning of a file.
-///
-/// # Errors
-///
-/// An allocation failed.
-pub(crate) fn write_message(
-    warning: FileWarning,
-    context: &Context<'_>,
-    to: &mut String,
-) -> Result<(), AllocError> {
+/// The message of a warning of a file.
+pub(crate) fn message_of(warning: FileWarning, context: &Context<'_>) -> Message<'static> {
     match warning {
-        FileWarning::NoTurns => {
-            to.push_str(match context.place {
-                Place::Table { .. } | Place::File => "no `schedule` and no `rounds`",
-                _ => "no slot has a turn",
-            })?;
-            to.push_str(": `vme step` leaves every line unfinished")
-        }
-        FileWarning::NoTurnsOfSlot { slot } => write!(
-            to,
-            "slot {slot} has a script and no turn: `vme step` leaves its lines unfinished"
+        FileWarning::NoTurns => plain(match context.place {
+            Place::Table { .. } | Place::File => {
+                "no `schedule` and no `rounds`: `vme step` leaves every line unfinished"
+            }
+            _ => "no slot has a turn: `vme step` leaves every line unfinished",
+        }),
+        FileWarning::NoTurnsOfSlot { slot } => with(
+            "slot {} has a script and no turn: `vme step` leaves its lines unfinished",
+            Value::Number(u64::from(slot)),
         ),
-        FileWarning::FewTurns { slot, turns, least } => {
-            let plural = if turns == 1 { "" } else { "s" };
-            write!(
-                to,
-                "slot {slot} has {turns} turn{plural}; its lines take at least {least}: \
-                some stay unfinished"
-            )
-        }
-        FileWarning::IdleTurns { slot } => {
-            write!(to, "slot {slot} has turns in `schedule` and no line")
-        }
-        FileWarning::NoLines => to.push_str("no script has a line that requests anything"),
-        FileWarning::IdleMailbox => to.push_str("no line uses this mailbox"),
-        FileWarning::Decimal { value } => {
-            let key = match context.place {
+        FileWarning::FewTurns { slot, turns, least } => with_three(
+            "slot {} has {}; its lines take at least {}: some stay unfinished",
+            Value::Number(u64::from(slot)),
+            Value::Count(turns, "turn"),
+            Value::Number(least),
+        ),
+        FileWarning::IdleTurns { slot } => with(
+            "slot {} has turns in `schedule` and no line",
+            Value::Number(u64::from(slot)),
+        ),
+        FileWarning::NoLines => plain("no script has a line that requests anything"),
+        FileWarning::IdleMailbox => plain("no line uses this mailbox"),
+        FileWarning::Decimal { value } => with_three(
+            "`{}` is decimal {}, hexadecimal {}",
+            Value::Word(match context.place {
                 Place::Key { key, .. } | Place::Value { key, .. } => key.name(),
                 _ => "address",
-            };
-            write!(to, "`{key}` is decimal {value}, hexadecimal {value:x}")
-        }
+            }),
+            Value::Number(u64::from(value)),
+            Value::Hex(u64::from(value)),
+        ),
     }
 }
 
-/// Appends the help of a warning of a file, or nothing.
-///
-/// # Errors
-///
-/// An allocation failed.
-pub(crate) fn write_help(warning: FileWarning, to: &mut String) -> Result<(), AllocError> {
+/// The help of a warning of a file.
+pub(crate) fn help_of(warning: FileWarning) -> Help<'static> {
     match warning {
-        FileWarning::NoTurns => to.push_str("add `rounds = 100` above the first [[board]]"),
-        FileWarning::Decimal { value } => write!(to, "write 0x{value} if that was meant"),
-        _ => Ok(()),
+        FileWarning::NoTurns => Help::Says(plain("add `rounds = 100` above the first [[board]]")),
+        FileWarning::Decimal { value } => Help::Says(with(
+            "write 0x{} if that was meant",
+            Value::Number(u64::from(value)),
+        )),
+        _ => Help::None,
     }
 }
 
-/// Appends the message of a warning of a line.
-///
-/// # Errors
-///
-/// An allocation failed.
-pub(crate) fn write_line_message(warning: LineWarning, to: &mut String) -> Result<(), AllocError> {
+/// The message of a warning of a line. Where its request is always refused, it is that of the
+/// refusal.
+pub(crate) fn line_message(warning: LineWarning) -> Message<'static> {
     match warning {
-        LineWarning::AlwaysRefused(cause) => {
-            cycle::write_message(cause, to)?;
-            to.push_str(": always refused")
-        }
-        LineWarning::NoBoardThere { space, addr, .. } => {
-            let space = space_name(space);
-            write!(to, "no {space} board at {addr:08x}: always berr 0")
-        }
-        LineWarning::SupervisoryBoard { slot, am, .. } => write!(
-            to,
-            "slot {slot} is supervisory; code {am:02x} is not: always berr 0"
+        LineWarning::AlwaysRefused(cause) => cycle::message_of(cause),
+        LineWarning::NoBoardThere { space, addr, .. } => with_two(
+            "no {} board at {}: always berr 0",
+            Value::Word(space_name(space)),
+            Value::Address(u64::from(addr)),
         ),
-        LineWarning::DatumPastEnd { slot, size, datum } => {
-            let data = datum.saturating_sub(1);
-            write!(
-                to,
-                "datum {datum} ends past slot {slot}, which has {size} bytes: always berr {data}"
-            )
-        }
-        LineWarning::PastEnd { slot, size } => write!(
-            to,
-            "the bytes end past slot {slot}, which has {size} bytes: always berr 0"
+        LineWarning::SupervisoryBoard { slot, am, .. } => with_two(
+            "slot {} is supervisory; code {} is not: always berr 0",
+            Value::Number(u64::from(slot)),
+            Value::Code(u32::from(am)),
         ),
-        LineWarning::BoardLacks { slot, lack, data } => {
-            write!(to, "slot {slot} has ")?;
-            match lack {
-                Lack::Unaligned => to.push_str("no unaligned transfers (`uat`)")?,
-                Lack::Blocks => to.push_str("no block transfers (`blt`)")?,
-                Lack::Modifies => to.push_str("no read-modify-writes (`rmw`)")?,
-                Lack::DataLines(lines) => write!(to, "fewer than {lines} data lines (`width`)")?,
-            }
-            write!(to, ": always berr {data}")
-        }
+        LineWarning::DatumPastEnd { slot, size, datum } => Message {
+            text: "datum {} ends past slot {}, which has {} bytes: always berr {}",
+            values: [
+                Value::Number(u64::from(datum)),
+                Value::Number(u64::from(slot)),
+                Value::Number(u64::from(size)),
+                Value::Number(u64::from(datum.saturating_sub(1))),
+                Value::None,
+                Value::None,
+            ],
+        },
+        LineWarning::PastEnd { slot, size } => with_two(
+            "the bytes end past slot {}, which has {} bytes: always berr 0",
+            Value::Number(u64::from(slot)),
+            Value::Number(u64::from(size)),
+        ),
+        LineWarning::BoardLacks { slot, lack, data } => lack_message(
+            lack,
+            Value::Number(u64::from(slot)),
+            Value::Number(u64::from(data)),
+        ),
         LineWarning::NeverMet => {
-            to.push_str("no line writes these bytes, which begin as zero: always timeout")
+            plain("no line writes these bytes, which begin as zero: always timeout")
         }
-        LineWarning::LockWritten { slot, line } => {
-            write!(
-                to,
-                "the lock byte is also written by slot {slot} line {line}"
-            )
-        }
-        LineWarning::LockKept => to.push_str("no line unlocks this byte"),
+        LineWarning::LockWritten { slot, line } => with_two(
+            "the lock byte is also written by slot {} line {}",
+            Value::Number(u64::from(slot)),
+            Value::Number(u64::from(line)),
+        ),
+        LineWarning::LockKept => plain("no line unlocks this byte"),
     }
 }
 
-/// Appends the help of a warning of a line, or nothing.
-///
-/// # Errors
-///
-/// An allocation failed.
-pub(crate) fn write_line_help(warning: LineWarning, to: &mut String) -> Result<(), AllocError> {
+/// The message that the board in a slot lacks what a transfer needs, which ends after so many data.
+fn lack_message(lack: Lack, slot: Value<'static>, data: Value<'static>) -> Message<'static> {
+    match lack {
+        Lack::Unaligned => with_two(
+            "slot {} has no unaligned transfers (`uat`): always berr {}",
+            slot,
+            data,
+        ),
+        Lack::Blocks => with_two(
+            "slot {} has no block transfers (`blt`): always berr {}",
+            slot,
+            data,
+        ),
+        Lack::Modifies => with_two(
+            "slot {} has no read-modify-writes (`rmw`): always berr {}",
+            slot,
+            data,
+        ),
+        Lack::DataLines(lines) => with_three(
+            "slot {} has fewer than {} data lines (`width`): always berr {}",
+            slot,
+            Value::Number(u64::from(lines)),
+            data,
+        ),
+    }
+}
+
+/// The help of a warning of a line.
+pub(crate) fn line_help(warning: LineWarning) -> Help<'static> {
     match warning {
-        LineWarning::AlwaysRefused(cause) => cycle::write_help(cause, to),
+        LineWarning::AlwaysRefused(cause) => cycle::help_of(cause),
         LineWarning::NoBoardThere {
             space,
             am,
             there: Some((slot, there)),
             ..
-        } => {
-            let space = space_name(space);
-            let there = space_name(there);
-            write!(
-                to,
-                "slot {slot} has that address in {there}; code {am:02x} selects {space}"
-            )
+        } => Help::Says(Message {
+            text: "slot {} has that address in {}; code {} selects {}",
+            values: [
+                Value::Number(u64::from(slot)),
+                Value::Word(space_name(there)),
+                Value::Code(u32::from(am)),
+                Value::Word(space_name(space)),
+                Value::None,
+                Value::None,
+            ],
+        }),
+        LineWarning::SupervisoryBoard { instead, .. } => {
+            Help::Says(with("write {}", Value::Code(u32::from(instead))))
         }
-        LineWarning::SupervisoryBoard { instead, .. } => write!(to, "write {instead:02x}"),
-        _ => Ok(()),
+        _ => Help::None,
     }
 }
