@@ -10,8 +10,9 @@ use vme_cycle::Signals;
 use vme_decode::{AddressMap, Entry};
 use vme_memory::{Access, ByteMemory, Class, Reply, Width8To32};
 
-/// The size of the board in bytes. It begins at address 0 of the extended space.
-const BOARD_SIZE: u32 = 4096;
+/// The number of bytes of the board of `vme cycles`. It begins at address 0 of the extended space,
+/// and responds to all codes of that space.
+pub const BOARD_SIZE: u32 = 4096;
 
 /// A bus with one board.
 #[derive(Drop)]
@@ -69,8 +70,7 @@ impl Bus {
     }
 }
 
-/// The entry of the board in the address map. The board responds to all codes of the extended
-/// space.
+/// The entry of the board in the address map.
 const ENTRY: Entry = Entry {
     space: Space::A32,
     base: 0,

@@ -13,9 +13,11 @@ mod input;
 mod request;
 mod words;
 
+pub use bus::BOARD_SIZE;
 pub use cycles::{INPUT_LIMIT, cycles_engine};
 pub use fault::{ProgramFault, exit_status};
 pub use file::{FILE_LIMIT, read_config};
 pub use input::read_input;
+pub use request::request_of;
 pub use vme_shared::Status;
 pub use words::{Form, WordsFault, read_words};

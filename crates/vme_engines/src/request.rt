@@ -7,10 +7,14 @@ use vme_cycle::Request;
 use vme_grammar::{LINE_LIMIT, Line, LineFault, parse_line};
 use vme_lexer::first_word;
 
-/// The request of a line. A line whose first word is not that of a request is refused as
-/// `UnknownWord`, whatever follows that word.
+/// Returns the request of a line of `vme cycles`, or `None` for a comment or a line without words.
+///
+/// # Errors
+///
+/// The line is refused: `LineTooLong` for more than `LINE_LIMIT` bytes; `UnknownWord` for a first
+/// word that is not that of a request, whatever follows it; otherwise the fault of `parse_line`.
 #[tactic(auto, unfolding(crate::specs::Lines::request_of))]
-pub(crate) fn request_of(line: &[u8]) -> Result<Option<Request>, LineFault>
+pub fn request_of(line: &[u8]) -> Result<Option<Request>, LineFault>
     ensures { result ≡ request_of line.now }
 {
     if LINE_LIMIT < line.len() {
