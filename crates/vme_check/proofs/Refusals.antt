@@ -10,7 +10,7 @@ use Rattle.vme_faults.specs.declared.cause.Cause.{Cause}
 use Rattle.vme_faults.specs.declared.cause.Cause.TheVariants as causes
 use Rattle.vme_faults.specs.Causes.{refusal_of, severity_of}
 use Rattle.vme_faults.specs.Severities.{is_of_warning, is_warning}
-use Rattle.vme_findings.specs.Verdicts.{IsVerdict, Agree, AreFindingsOf, first_refusal}
+use Rattle.vme_check.specs.Verdicts.{IsVerdict, Agree, AreFindingsOf, first_refusal}
 use Rattle.vme_check.specs.Answers.{IsAnswer}
 
 -- the first of two that are both true is true

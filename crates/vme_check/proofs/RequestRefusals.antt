@@ -2,9 +2,8 @@
 use Rattle.std.proofs.Common.{◌≡◌, ◌∙◌, ap, sym, List, [], ◌∷◌, ◌++◌, option_to_list}
 use Rattle.std.proofs.lemmas.List.{append_assoc, append-nil}
 use Rattle.vme_faults.specs.declared.finding.Finding.{Finding}
-use Rattle.vme_findings.specs.declared.request_line.RequestRefusal.{RequestRefusal}
-use Rattle.vme_findings.specs.Requests.{refusal_by}
-use Rattle.vme_check.specs.Requests.{refusals_by}
+use Rattle.vme_check.specs.declared.findings.request_line.RequestRefusal.{RequestRefusal}
+use Rattle.vme_check.specs.Requests.{refusal_by, refusals_by}
 
 -- with one finding appended, its refusal, if it has one, follows those of the others
 pub one_more : (found : List Finding) (finding : Finding)

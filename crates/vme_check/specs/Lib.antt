@@ -1,3 +1,4 @@
 pub mod Devices
+pub mod Verdicts
 pub mod Answers
 pub mod Requests

@@ -1,16 +1,16 @@
 //! The engine of `bendrika check`: from the bytes of a configuration file to its findings.
 ghost use Rattle.std.specs.Prelude.{◌≡◌, false, IsTrue, IfOk, IfErr, IfSome};
 ghost use Rattle.vme_report.specs.Ends.{IsReportFault, is_write_end};
-ghost use Rattle.vme_findings.specs.Verdicts.{first_refusal};
+ghost use Rattle.vme_check.specs.Verdicts.{first_refusal};
 ghost use Rattle.vme_check.specs.Answers.{IsAnswer};
 ghost use Rattle.vme_engines.specs.Faults.{IsCyclesFault, ReadsWithin, is_read_failure, is_write_failure};
 
-use crate::print::print_findings;
+use crate::findings::findings_of;
+use crate::report::{Counts, Form, Input, print_findings};
 use std::alloc::Global;
 use vme_engines::{FILE_LIMIT, ProgramFault, read_input};
-use vme_findings::{Finding, findings_of};
+use vme_faults::Finding;
 use vme_io::{Sink, Source};
-use vme_messages::{Counts, Form, Input};
 use vme_positions::Outline;
 use vme_report::RunFault;
 use vme_script::ConfigFault;

@@ -3,12 +3,11 @@ ghost use Rattle.std.specs.Prelude.{◌≡◌, false, IsTrue, IfErr};
 ghost use Rattle.vme_report.specs.Ends.{IsReportFault, is_write_end};
 ghost use Rattle.vme_engines.specs.Faults.{IsCyclesFault, ReadsWithin, is_read_failure, is_write_failure};
 
-use crate::print::print_findings;
-use crate::requests::findings_of_lines;
+use crate::findings::findings_of_lines;
+use crate::report::{Counts, Form, Input, print_findings};
 use std::alloc::Global;
 use vme_engines::{INPUT_LIMIT, ProgramFault, read_input};
 use vme_io::{Sink, Source};
-use vme_messages::{Counts, Form, Input};
 use vme_report::RunFault;
 
 /// Finds the faults and warnings of request lines, and prints them as the form says. It performs no

@@ -3,15 +3,24 @@
 //!
 //! [`check_engine`] reads a configuration file, [`request_check_engine`] request lines. Each reads a
 //! source of bytes, writes to a sink, and returns how many findings there are, or a fault.
+//! [`findings_of`] and [`request_finding`] find without printing.
 #![tactic(auto)]
 
 mod check;
 mod cycles;
 mod device;
-mod print;
-mod requests;
+mod findings;
+mod report;
+mod texts;
 
 pub use check::{CheckEnd, check_engine};
 pub use cycles::request_check_engine;
 pub use device::InputReader;
-pub use vme_messages::{Counts, Form, shown_name, summary};
+pub use findings::{RequestRefusal, findings_of, no_file_is_both, request_finding};
+pub use report::{Counts, Form, shown_name, summary};
+pub use vme_faults::{
+    BoardCause, BoardName, Cause, CycleCause, DataLength, DocumentCause, FileWarning, Finding,
+    Lack, LineCause, LineForm, LineWarning, MailboxCause, ScheduleCause, Severity, ValueKind,
+    the_first_is_reported,
+};
+pub use vme_positions::{Key, Place, TableName};

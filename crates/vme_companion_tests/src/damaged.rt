@@ -2,7 +2,7 @@
 use crate::support::{codes_of, has_error};
 use std::alloc::Global;
 use std::process::Abort;
-use vme_findings::{Cause, findings_of};
+use vme_check::{Cause, findings_of};
 
 /// A configuration with a board, a mailbox and a schedule, and with bus, local and mailbox lines.
 static FILE: &str = "schedule = [[2, 2], [1, 1]]

@@ -1,7 +1,7 @@
 //! The places of findings.
 use std::alloc::Global;
 use std::process::Abort;
-use vme_findings::{Key, Place, TableName, findings_of};
+use vme_check::{Key, Place, TableName, findings_of};
 
 /// A file with faults at unknown keys, elements, values and words.
 static FILE: &str = "schedule = [[1, 1], 5, 6, [9, 1], [1, -1]]

@@ -1,6 +1,6 @@
 //! The findings of request lines.
 use std::process::Abort;
-use vme_findings::{Cause, Place, request_finding};
+use vme_check::{Cause, Place, request_finding};
 
 /// Lines with the code of their finding and the bytes that are at fault; no code for no finding.
 static LINES: [(&str, &str, usize, usize); 25] = [

@@ -1,7 +1,7 @@
 //! What the tests share: the codes of a file's findings as one text.
 use std::alloc::{AllocError, Global};
 use std::process::Abort;
-use vme_findings::{Cause, Severity, findings_of};
+use vme_check::{Cause, Severity, findings_of};
 
 /// Returns the codes of a file's findings, each after a space. A refusal without a cause of its own
 /// is `bare`.

@@ -1,0 +1,119 @@
+//! The findings of a file, its refusal first, and of request lines.
+ghost use Rattle.std.specs.Prelude.{◌≡◌, ◌++◌, List, Some, IfOk, IsUtf8};
+ghost use Rattle.toml.specs.Errors.{IsMemory};
+ghost use Rattle.toml.specs.Parse.{parse_document};
+ghost use Rattle.toml.specs.View.{table_view};
+ghost use Rattle.vme_faults.specs.declared.finding.Finding.{Finding};
+ghost use Rattle.vme_faults.specs.Causes.{refusal_of};
+ghost use Rattle.vme_check.specs.Verdicts.{first_refusal, AreFindingsOf};
+
+mod laws;
+mod lines;
+mod request_line;
+
+pub use laws::no_file_is_both;
+pub(crate) use lines::findings_of_lines;
+pub use request_line::{RequestRefusal, request_finding};
+use std::alloc::{AllocError, Global};
+use toml::Table;
+use toml::de::Error;
+use vme_faults::{Cause, DocumentCause, Finding, faults_of, find, warnings_of};
+use vme_positions::Place;
+use vme_script::{Config, ConfigFault};
+
+/// Returns all faults of a file that can be distinguished, or the warnings of a configuration.
+///
+/// A file that `vme` refuses has errors only, and the first of them is that refusal. A test is made
+/// only where all values that it needs are known and not refused themselves, so a fault that only
+/// follows from another one is not found.
+///
+/// # Errors
+///
+/// An allocation failed.
+#[tactic(auto, using(crate::proofs::Verdicts::not_a_document))]
+pub fn findings_of(alloc: Global, text: &[u8]) -> Result<Vec<Finding>, AllocError>
+    ensures { IfOk result (λ findings. AreFindingsOf text.now findings.items) }
+{
+    match toml::table_from_slice(alloc, text) {
+        Ok(table) => findings_in(alloc, text, &table),
+        Err(error) => {
+            let findings = not_toml(alloc, error)?;
+            Ok(findings)
+        }
+    }
+}
+
+/// The findings of a text that has been parsed.
+fn findings_in(alloc: Global, text: &[u8], table: &Table) -> Result<Vec<Finding>, AllocError>
+    requires text { IsUtf8 text.now }
+    requires document { parse_document text.now ≡ Some (table_view table.now) }
+    ensures { IfOk result (λ findings. AreFindingsOf text.now findings.items) }
+{
+    match Config::of_document(alloc, table) {
+        Ok(config) => warnings_of(alloc, text, table, &config),
+        Err(ConfigFault::OutOfMemory) => Err(AllocError),
+        Err(fault) => errors_of(alloc, table, fault),
+    }
+}
+
+/// The finding of a text that is not TOML.
+fn not_toml(alloc: Global, error: Error) -> Result<Vec<Finding>, AllocError>
+    ensures { IfOk result (λ findings. (IsMemory error → ⊥)
+        × (first_refusal findings.items ≡ Some ConfigFault.NotToml)) }
+{
+    let Some(span) = error.span() else {
+        return Err(AllocError);
+    };
+    let place = Place::Bytes {
+        from: span.start,
+        to: span.end,
+    };
+    let mut findings = Vec::new(alloc);
+    let cause = Cause::Document(DocumentCause::NotToml { error });
+    find(&mut findings, cause, place)?;
+    Ok(findings)
+}
+
+/// The faults of a document with a refusal, which is the first of them.
+fn errors_of(alloc: Global, table: &Table, fault: ConfigFault) -> Result<Vec<Finding>, AllocError>
+    ensures { IfOk result (λ findings. first_refusal findings.items ≡ Some fault) }
+{
+    let found = faults_of(alloc, table)?;
+    let first = first_finding(&found, fault);
+    let mut findings = Vec::with_capacity(alloc, found.len())?;
+    findings.push(first)?;
+    push_others(&found, first, &mut findings)?;
+    Ok(findings)
+}
+
+/// The first finding with this refusal, or one without values if there is none.
+fn first_finding(found: &[Finding], fault: ConfigFault) -> Finding
+    ensures { refusal_of result.cause ≡ Some fault }
+{
+    for finding in found {
+        if finding.cause.refusal() == Some(fault) {
+            return *finding;
+        }
+    }
+    Finding {
+        cause: Cause::Refused(fault),
+        place: Place::File,
+    }
+}
+
+/// Appends those of the findings that differ from the first.
+fn push_others(
+    found: &[Finding],
+    first: Finding,
+    findings: &mut Vec<Finding>,
+) -> Result<(), AllocError>
+    ensures { IfOk result (λ _. (more : List Finding) ×
+        (findings.new.items ≡ findings.old.items ++ more)) }
+{
+    for finding in found {
+        if *finding != first {
+            find(findings, finding.cause, finding.place)?;
+        }
+    }
+    Ok(())
+}

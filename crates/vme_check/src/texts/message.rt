@@ -1,0 +1,154 @@
+//! A message as a text and values, and the function that prints every message.
+use crate::report::push_count;
+use crate::texts::quote::push_quoted;
+use std::alloc::AllocError;
+use std::fmt::Write;
+use toml::de::Error;
+
+/// A value in a message.
+#[derive(Clone, Copy)]
+pub(crate) enum Value<'a> {
+    /// Nothing.
+    None,
+    /// A code, two hexadecimal digits.
+    Code(u32),
+    /// An address, eight hexadecimal digits.
+    Address(u64),
+    /// A number, hexadecimal.
+    Hex(u64),
+    /// A number.
+    Number(u64),
+    /// A number that may be below 0.
+    Signed(i64),
+    /// A number and the word for what is counted, in the plural unless the number is 1.
+    Count(u64, &'static str),
+    /// A word and a number.
+    Numbered(&'static str, u64),
+    /// A word, a number, and a key in backquotes.
+    Element(&'static str, u64, &'static str),
+    /// A word.
+    Word(&'static str),
+    /// A word in backquotes.
+    Key(&'static str),
+    /// The message of an error of TOML.
+    Toml(Error),
+    /// A word of the file, quoted.
+    Quoted(&'a [u8]),
+    /// ASCII characters of the file.
+    Chars(&'a [u8]),
+    /// This many zeros.
+    Zeros(usize),
+    /// The numbers of the bits that are set, from 1 to 21, each after a space.
+    Slots(u32),
+}
+
+/// A text with `{}` in the place of each value, and the values.
+#[derive(Clone, Copy)]
+pub(crate) struct Message<'a> {
+    pub(crate) text: &'static str,
+    pub(crate) values: [Value<'a>; 6],
+}
+
+/// A message without values.
+pub(crate) fn plain(text: &'static str) -> Message<'static> {
+    Message {
+        text,
+        values: [Value::None; 6],
+    }
+}
+
+/// A message with one value.
+pub(crate) fn with<'a>(text: &'static str, value: Value<'a>) -> Message<'a> {
+    with_three(text, value, Value::None, Value::None)
+}
+
+/// A message with two values.
+pub(crate) fn with_two<'a>(text: &'static str, first: Value<'a>, second: Value<'a>) -> Message<'a> {
+    with_three(text, first, second, Value::None)
+}
+
+/// A message with three values.
+pub(crate) fn with_three<'a>(
+    text: &'static str,
+    first: Value<'a>,
+    second: Value<'a>,
+    third: Value<'a>,
+) -> Message<'a> {
+    Message {
+        text,
+        values: [first, second, third, Value::None, Value::None, Value::None],
+    }
+}
+
+/// Appends a message.
+///
+/// # Errors
+///
+/// An allocation failed.
+pub(crate) fn push_message(message: &Message<'_>, to: &mut String) -> Result<(), AllocError> {
+    let mut values = message.values.iter();
+    let mut texts = message.text.split("{}");
+    if let Some(first) = texts.next() {
+        to.push_str(first)?;
+    }
+    for text in texts {
+        if let Some(value) = values.next() {
+            push_value(*value, to)?;
+        }
+        to.push_str(text)?;
+    }
+    Ok(())
+}
+
+/// Appends a value.
+fn push_value(value: Value<'_>, to: &mut String) -> Result<(), AllocError> {
+    match value {
+        Value::None => Ok(()),
+        Value::Code(code) => write!(to, "{code:02x}"),
+        Value::Address(address) => write!(to, "{address:08x}"),
+        Value::Hex(number) => write!(to, "{number:x}"),
+        Value::Number(number) => write!(to, "{number}"),
+        Value::Signed(number) => write!(to, "{number}"),
+        Value::Count(count, thing) => push_count(count, thing, to),
+        Value::Numbered(word, number) => write!(to, "{word} {number}"),
+        Value::Element(word, number, key) => write!(to, "{word} {number} of `{key}`"),
+        Value::Word(word) => to.push_str(word),
+        Value::Key(word) => write!(to, "`{word}`"),
+        Value::Toml(error) => to.push_str(error.message()),
+        Value::Quoted(word) => push_quoted(word, to),
+        Value::Chars(chars) => push_chars(chars, to),
+        Value::Zeros(count) => push_zeros(count, to),
+        Value::Slots(slots) => push_slots(slots, to),
+    }
+}
+
+/// Appends ASCII characters.
+fn push_chars(chars: &[u8], to: &mut String) -> Result<(), AllocError> {
+    for byte in chars {
+        to.push(char::from(*byte))?;
+    }
+    Ok(())
+}
+
+/// Appends zeros.
+fn push_zeros(count: usize, to: &mut String) -> Result<(), AllocError> {
+    for _ in 0..count {
+        to.push('0')?;
+    }
+    Ok(())
+}
+
+/// The greatest number of a slot.
+const LAST_SLOT: u32 = 21;
+
+/// Appends the slots whose bit is set.
+fn push_slots(slots: u32, to: &mut String) -> Result<(), AllocError> {
+    let mut separator = " ";
+    for slot in 1..=LAST_SLOT {
+        if slots & (1 << slot) != 0 {
+            write!(to, "{separator}{slot}")?;
+            separator = ", ";
+        }
+    }
+    Ok(())
+}
