@@ -1,0 +1,88 @@
+"""Runs of a program in which an allocation fails, or a device fails or moves few bytes.
+
+The library checks/refuse.c, which is loaded before the C library, makes the calls fail. Without a C compiler nothing is run."""
+
+import os
+import pathlib
+import shutil
+import subprocess
+import tempfile
+from concurrent.futures import ThreadPoolExecutor
+from typing import Callable, NamedTuple
+
+SOURCE = pathlib.Path(__file__).resolve().parent / "refuse.c"
+TIME = 120
+
+
+class Ended(NamedTuple):
+    """How a run ended and what it wrote."""
+
+    status: int
+    written: bytes
+    told: bytes
+
+
+class Failing:
+    """A program whose calls fail. `count` is how many refused growths were met."""
+
+    def __init__(self, program: object, folder: object) -> None:
+        self.program, self.folder, self.library = program, pathlib.Path(folder), None
+        self.pool, self.count = ThreadPoolExecutor(), 0
+        if shutil.which("cc"):
+            self.library = self.folder / "refuse.so"
+            subprocess.run(["cc", "-O2", "-shared", "-fPIC", "-o", self.library, SOURCE], check=True)
+
+    def plain(self, words: list, given: bytes) -> Ended:
+        """A run in which nothing fails."""
+        ran = subprocess.run([self.program, *words], input=given, capture_output=True, check=False, timeout=TIME)
+        return Ended(ran.returncode, ran.stdout, ran.stderr)
+
+    def run(self, words: list, given: bytes = b"", **limits: int) -> Ended:
+        """A run with the limits that checks/refuse.c names, in any case: read, write, at_once."""
+        names = {name.upper(): str(number) for name, number in limits.items()}
+        environment = {**os.environ, **names, "LD_PRELOAD": str(self.library)}
+        ran = subprocess.run([self.program, *words], input=given, capture_output=True, check=False, timeout=TIME,
+                             env=environment, pass_fds=[limits["refuse_on"]] if "refuse_on" in limits else [])
+        return Ended(ran.returncode, ran.stdout, ran.stderr)
+
+    def refused(self, words: list, given: bytes, number: int) -> tuple[Ended, bool]:
+        """A run with this growth of memory refused, and whether the run came to it."""
+        with tempfile.TemporaryFile(dir=self.folder) as met:
+            ended = self.run(words, given, refuse=number, refuse_on=met.fileno())
+            return ended, os.fstat(met.fileno()).st_size > 0
+
+    def each_growth(self, expect: Callable, words: list, given: bytes = b"") -> None:
+        """With each growth of memory refused in turn a run gives the whole answer, or a prefix of it and `memory`."""
+        if self.library is None:
+            return
+        whole, first, is_over = self.plain(words, given), 1, False
+        while not is_over:
+            numbers = range(first, first + 64)
+            for number, (ended, is_met) in zip(numbers, self.pool.map(lambda it: self.refused(words, given, it), numbers)):
+                is_fault = ended.status == 3 and ended.told == b"bendrika: memory\n" and whole.written.startswith(ended.written)
+                expect(ended == whole or is_met and is_fault, f"{words} where growth {number} is refused: {ended}")
+                self.count += is_met
+                is_over = is_over or not is_met
+            first += 64
+        expect(self.refused(words, given, 1)[1], f"{words}: no growth was refused")
+
+    def each_capacity(self, expect: Callable, words: list, given: bytes, capacities: list[int]) -> None:
+        """An output that takes so many bytes, seven a call, and then fails, has just these bytes; one that does not has all."""
+        if self.library is None:
+            return
+        whole = self.plain(words, given)
+        expect(self.run(words, given, at_once=7) == whole and not whole.told, f"{words} by seven bytes a call: {whole}")
+        for capacity in capacities:
+            ended = self.run(words, given, at_once=7, write=capacity)
+            wanted = Ended(3, whole.written[:capacity], b"bendrika: write\n")
+            expect(capacity < len(whole.written) and ended == wanted, f"{words} with room for {capacity} bytes: {ended}")
+
+    def each_input(self, expect: Callable, words: list, given: bytes, written: bytes = b"") -> None:
+        """An input of one byte a call changes nothing; one that fails is reported, and only `written` is written."""
+        if self.library is None:
+            return
+        expect(self.run(words, given, at_once=1) == self.plain(words, given), f"{words} by one byte a call")
+        wanted = Ended(3, written, b"bendrika: <stdin>: Input/output error (os error 5)\n")
+        for count in (0, 1, 20, len(given)):
+            ended = self.run(words, given, read=count)
+            expect(ended == wanted, f"{words} with an input that fails after {count} bytes: {ended}")
