@@ -1,124 +1,139 @@
--- The diagrams of a run, turn by turn.
-use Rattle.std.proofs.Common.{◌≡◌, ℕ, ◌+◌, ◌<◌, ◌≤◌, ◌⊎◌, nat_lt, Bool, true, false, List, [], ◌∷◌, ◌++◌, Option, Some, None, refl, ap, sym, inl, inr, subst, ◌∙◌, arith, append_assoc}
-use Rattle.std.specs.Prelude.{if◌then◌else◌}
-use Rattle.std.specs.Option.{option_to_list}
-use Rattle.std.proofs.lemmas.Bool.{lt-ltb, le-ltb}
-use Rattle.std.proofs.lemmas.List.{append-nil}
+-- The diagrams after the events of a run have the values of the dump.
+use Rattle.std.proofs.Common.{◌≡◌, ℕ, zero, suc, ◌+◌, ◌-◌, Bool, true, false, List, [], ◌∷◌, ◌++◌, length, map, refl, ap, sym, ◌∙◌, arith, length-append}
+use Rattle.std.specs.Prelude.{if◌then◌else◌, Option}
+use Rattle.std.specs.List.{list_any, flat_map, range_with_len}
 use Rattle.std.specs.Io.KnownBytes.{Appends}
-use Rattle.vme_io.specs.Prefixes.{AppendsPrefix, Gathers}
-use Rattle.vme_io.proofs.lemmas.Gathering.{SoFar}
 use Rattle.vme_io.proofs.lemmas.Appending.{Appends-none, Appends-more}
 use Rattle.vme_script.specs.Configurations.{Configuration}
-use Rattle.vme_stepper.specs.Turns.{board_in_slot, initial_state, state_after}
+use Rattle.vme_line_task.specs.Scripts.{lines_at}
+use Rattle.vme_stepper.specs.Turns.{initial_state, state_after}
 use Rattle.vme_stepper.specs.Schedules.{file_turns}
 use Rattle.vme_stepper.specs.Reports.{run_text}
-use Rattle.vme_stepper.specs.Steppers.{StepperView, stepper_of, stepper_turn_at}
 use Rattle.vme_trace.specs.declared.observation.Observation.{Observation}
-use Rattle.vme_trace.specs.Observations.{observed_at, observed_from, observations}
-use Rattle.vme_page.specs.declared.range.EventRange.{EventRange}
-use Rattle.vme_page.specs.Notes.{page_end}
-use Rattle.vme_page.specs.Drawings.{DrawingView, opening_drawing, drawing_after, turn_text, turn_after, ending, diagrams_text}
-use Rattle.vme_page.specs.Pages.{run_diagrams, page_body, AppendsPage}
+use Rattle.vme_trace.specs.declared.dump.change.Code.{Code}
+use Rattle.vme_trace.specs.declared.dump.change.Change.{Change}
+use Rattle.vme_trace.specs.declared.dump.change.Value.{Value}
+use Rattle.vme_trace.specs.declared.dump.change.Value.TheVariants.{High}
+use Rattle.vme_trace.specs.declared.dump.variable.Variable.TheVariants.{RequestLine, BusyLine}
+use Rattle.vme_trace.specs.Variables.{code_of}
+use Rattle.vme_trace.specs.Events.{event_changes}
+use Rattle.vme_trace.specs.Shown.{value_over, value_at, after_event, after_events, value_after_run}
+use Rattle.vme_page.specs.declared.diagram.layout.Bar.{Bar}
+use Rattle.vme_page.specs.declared.diagram.window.Window.TheVariants.{Whole}
+use Rattle.vme_page.specs.Levels.{levels_over, levels_past, levels_after_run}
+use Rattle.vme_page.specs.Layouts.{LayoutView, is_kind, bar_with, bar_of, bars_after_run, bar_past, layout_past}
+use Rattle.vme_page.specs.Diagrams.{IsWholeEvent}
+use Rattle.vme_page.specs.Drawings.{DrawingView, ShowsRun}
+use Rattle.vme_page.specs.Pages.{Grows, AppendsPage}
+use Rattle.vme_page.proofs.Edges.{at_over}
 
--- after an event past those that are shown, only the ending is left
-past : (config : Configuration) (range : EventRange) (d : DrawingView) (events : List Observation) → nat_lt range.last d.count ≡ true
-    → diagrams_text config range d events ≡ ending range d
-past config range d [] over = refl
-past config range d (o ∷ events) over = rw over refl
+-- the value after one more event of those that follow n others
+value_more : (code : Code) (boards n : ℕ) (events : List Observation) (o : Observation) (v : Value)
+    → after_events code boards n (events ++ o ∷ []) v
+    ≡ value_over code (event_changes boards (n + length events + 1) o) 0 20 (after_events code boards n events v)
+value_more code boards n [] o v =
+    let number : n + 1 ≡ n + 0 + 1 = omega arith in
+    sym (at_over code (event_changes boards (n + 1) o) 19 v) ∙ ap (λ (m : ℕ). value_over code (event_changes boards m o) 0 20 v) number
+value_more code boards n (first ∷ events) o v =
+    let number : (n + 1) + length events + 1 ≡ n + suc (length events) + 1 = omega arith in
+    let next = after_event code boards (n + 1) first v in
+    value_more code boards (n + 1) events o next
+    ∙ ap (λ (m : ℕ). value_over code (event_changes boards m o) 0 20 (after_events code boards (n + 1) events next)) number
 
--- the drawing of what is left begins with that of the next turn
-first_turn : (config : Configuration) (range : EventRange) (d : DrawingView) (found : Option Observation) (later : List Observation)
-    → nat_lt range.last d.count ≡ false
-    → diagrams_text config range d (option_to_list found ++ later)
-    ≡ turn_text config range d found ++ diagrams_text config range (turn_after config range d found) later
-first_turn config range d None later more = refl
-first_turn config range d (Some o) later more = rw more refl
+-- the value after one more event of a run
+run_more : (code : Code) (boards : ℕ) (events : List Observation) (o : Observation) (v : Value)
+    → value_after_run code boards (events ++ o ∷ []) v
+    ≡ value_over code (event_changes boards (length events + 1) o) 0 20 (value_after_run code boards events v)
+run_more code boards events o v =
+    let number : 0 + length events + 1 ≡ length events + 1 = omega arith in
+    value_more code boards 0 events o v
+    ∙ ap (λ (m : ℕ). value_over code (event_changes boards m o) 0 20 (value_after_run code boards events v)) number
 
--- the diagrams of the turns that are left are those of the next turn, and of those after it
-pub next_drawn :
-    (config : Configuration) (range : EventRange) (d : DrawingView) (stepper : StepperView) (slot : ℕ) (turns rest : List ℕ) → turns ≡ slot ∷ rest
-    → d.count ≤ range.last
-    → diagrams_text config range d (observed_from config stepper turns)
-    ≡ turn_text config range d (observed_at config stepper (board_in_slot config slot))
-    ++ diagrams_text config range (turn_after config range d (observed_at config stepper (board_in_slot config slot)))
-    (observed_from config (stepper_turn_at config stepper (board_in_slot config slot)) rest)
-next_drawn config range d stepper slot turns rest next within =
-    ap (λ (all : List ℕ). diagrams_text config range d (observed_from config stepper all)) next
-    ∙ first_turn config range d (observed_at config stepper (board_in_slot config slot))
-    (observed_from config (stepper_turn_at config stepper (board_in_slot config slot)) rest) (le-ltb range.last d.count within)
+-- the values of the lines of the bus after one more event
+levels_next : (boards : ℕ) (events : List Observation) (o : Observation)
+    → levels_after_run boards (events ++ o ∷ []) ≡ levels_over (event_changes boards (length events + 1) o) 0 20 (levels_after_run boards events)
+unfolding levels_after_run levels_over
+levels_next boards events o = simp run_more
 
--- if no turn is left, or after an event past those that are shown, only the ending is left
-pub none_drawn :
-    (config : Configuration) (range : EventRange) (d : DrawingView) (stepper : StepperView) (turns : List ℕ)
-    → (turns ≡ []) ⊎ (range.last < d.count) → diagrams_text config range d (observed_from config stepper turns) ≡ ending range d
-none_drawn config range d stepper turns (inl none) =
-    ap (λ (all : List ℕ). diagrams_text config range d (observed_from config stepper all)) none
-none_drawn config range d stepper turns (inr over) = past config range d (observed_from config stepper turns) (lt-ltb range.last d.count over)
+-- the changes of an event that follows others of a run
+abbrev next_changes : Configuration → List Observation → Observation → List Change
+next_changes config events o = event_changes (length config.boards) (length events + 1) o
 
--- a turn adds at most one event
-pub count_grows : (config : Configuration) (range : EventRange) (d : DrawingView) (found : Option Observation)
-    → (turn_after config range d found).count ≤ d.count + 1
-unfolding drawing_after
-count_grows config range d None = omega arith
-count_grows config range d (Some event) = omega arith
+-- a bar after one more event
+bar_next : (config : Configuration) (events : List Observation) (o : Observation) (board : ℕ)
+    → bar_past Whole (next_changes config events o) (bar_with config events board) ≡ bar_with config (events ++ o ∷ []) board
+bar_next config events o board =
+    let boards = length config.boards in
+    let request = value_over (code_of (RequestLine board)) (next_changes config events o) 0 20 (value_after_run (code_of (RequestLine board)) boards events High) in
+    let busy = value_after_run (code_of (BusyLine board)) boards (events ++ o ∷ []) High in
+    ap (λ (v : Value). record (bar_with config events board) { request = request; busy = v }) (sym (run_more (code_of (BusyLine board)) boards events o High))
+    ∙ ap (λ (v : Value). record (bar_with config events board) { request = v; busy = busy }) (sym (run_more (code_of (RequestLine board)) boards events o High))
 
--- at the start all diagrams are left
-pub all_left : (config : Configuration) (range : EventRange) (d : DrawingView) (stepper : StepperView) (turns : List ℕ)
-    → d ≡ opening_drawing config → stepper ≡ stepper_of config (initial_state config) → turns ≡ file_turns config
-    → diagrams_text config range d (observed_from config stepper turns) ≡ run_diagrams config range
-unfolding run_diagrams observations
-all_left config range d stepper turns opens is all = rw (opens, is, all) refl
+-- a function of each item of a list that has one or none
+map_if : {A : Type 0} (b : Bool) (f : A → A) (x y : A) → f x ≡ y → map f (if b then x ∷ [] else []) ≡ (if b then y ∷ [] else [])
+map_if true f x y same = ap (λ z. z ∷ []) same
+map_if false f x y same = refl
 
--- before the first turn the whole text is left
-pub so_far_starts : (reported : Option (List ℕ)) (gathered left whole : List ℕ) → left ≡ whole → SoFar reported reported gathered left (gathered ++ whole)
-so_far_starts reported gathered left whole same = record {
-  prefix = [];
-  appends = Appends-none reported;
-  split = ap (λ l. gathered ++ l) same;
-}
+-- a function of each item of two lists
+map_append : {A : Type 0} (f : A → A) (xs ys : List A) → map f (xs ++ ys) ≡ map f xs ++ map f ys
+map_append f [] ys = refl
+map_append f (x ∷ xs) ys = ap (λ rest. f x ∷ rest) (map_append f xs ys)
+
+-- the bars of some boards after one more event
+bars_of_next : (config : Configuration) (events : List Observation) (o : Observation) (boards : List ℕ)
+    → map (bar_past Whole (next_changes config events o)) (flat_map (bar_of config events) boards) ≡ flat_map (bar_of config (events ++ o ∷ [])) boards
+bars_of_next config events o [] = refl
+bars_of_next config events o (board ∷ boards) =
+    let f = bar_past Whole (next_changes config events o) in
+    map_append f (bar_of config events board) (flat_map (bar_of config events) boards)
+    ∙ ap (λ (rest : List Bar). map f (bar_of config events board) ++ rest) (bars_of_next config events o boards)
+    ∙ ap (λ (first : List Bar). first ++ flat_map (bar_of config (events ++ o ∷ [])) boards)
+    (map_if (list_any (is_kind false) (lines_at config board)) f (bar_with config events board) (bar_with config (events ++ o ∷ []) board)
+    (bar_next config events o board))
+
+-- the bars after one more event
+bars_next : (config : Configuration) (events : List Observation) (o : Observation)
+    → map (bar_past Whole (next_changes config events o)) (bars_after_run config events) ≡ bars_after_run config (events ++ o ∷ [])
+unfolding bars_after_run
+bars_next config events o = bars_of_next config events o (range_with_len 0 (length config.boards))
+
+-- a drawing that shows a run shows one more event of it after all edges of the event
+pub shows_more : (config : Configuration) (events : List Observation) (o : Observation) (old new : DrawingView)
+    → ShowsRun config events old → new.count ≡ old.count + 1
+    → IsWholeEvent (event_changes (length config.boards) (old.count + 1) o) old.diagram new.diagram
+    → ShowsRun config (events ++ o ∷ []) new
+shows_more config events o old new shows one whole =
+    let boards = length config.boards in
+    record {
+      count = one ∙ ap (λ (n : ℕ). n + 1) shows.count ∙ sym (length-append events (o ∷ []));
+      levels = whole.levels
+          ∙ ap (λ (n : ℕ). levels_over (event_changes boards (n + 1) o) 0 20 old.diagram.levels) shows.count
+          ∙ ap (levels_over (next_changes config events o) 0 20) shows.levels ∙ sym (levels_next boards events o);
+      bars = ap (λ (layout : LayoutView). layout.bars) whole.layout
+          ∙ ap (λ (n : ℕ). map (bar_past Whole (event_changes boards (n + 1) o)) old.diagram.layout.bars) shows.count
+          ∙ ap (map (bar_past Whole (next_changes config events o))) shows.bars ∙ bars_next config events o;
+    }
 
 -- the state before the first turn
 pub starts_state : (config : Configuration) → state_after config [] ≡ initial_state config
 unfolding state_after
 starts_state config = refl
 
--- if the call stops after some turns, a prefix of the whole was written
-pub so_far_left : (old new : Option (List ℕ)) (gathered left whole : List ℕ) → SoFar old new gathered left whole → AppendsPrefix old new whole
-so_far_left old new gathered left whole so_far = record {
-  prefix = so_far.prefix;
-  rest = gathered ++ left;
-  split = sym so_far.split ∙ append_assoc so_far.prefix gathered left;
-  appends = so_far.appends;
-}
+-- a byte model that stays has grown by nothing
+pub grows_none : (a : Option (List ℕ)) → Grows a a
+grows_none a = record { text = []; appends = Appends-none a }
 
--- what is left was gathered, and so the whole text was
-pub so_far_gathers : (old new : Option (List ℕ)) (before gathered left ended after text : List ℕ) → SoFar old new gathered left (before ++ text)
-    → left ≡ ended → after ≡ gathered ++ ended → Gathers old new before after text
-so_far_gathers old new before gathered left ended after text so_far same printed = record {
-  prefix = so_far.prefix;
-  appends = so_far.appends;
-  split = sym so_far.split ∙ append_assoc so_far.prefix gathered left
-      ∙ ap (λ (t : List ℕ). so_far.prefix ++ (gathered ++ t)) same ∙ ap (λ (t : List ℕ). so_far.prefix ++ t) (sym printed);
-}
-
--- if all of the text was gathered after nothing, nothing is left
-pub so_far_all : (old new : Option (List ℕ)) (before after text : List ℕ) → Gathers old new before after text → before ≡ [] → SoFar old new after [] text
-so_far_all old new before after text gathers none = record {
-  prefix = gathers.prefix;
-  appends = gathers.appends;
-  split = append-nil (gathers.prefix ++ after) ∙ sym gathers.split ∙ ap (λ (t : List ℕ). t ++ text) none;
-}
+-- a byte model that grew twice has grown
+pub grows_more : (a b c : Option (List ℕ)) → Grows a b → Grows b c → Grows a c
+grows_more a b c first next = record { text = first.text ++ next.text; appends = Appends-more a b c first.text next.text first.appends next.appends }
 
 -- the head, the diagrams, the report and the end, written one after another, are a page
-pub page_written :
-    (config : Configuration) (range : EventRange) (old headed drawn reported new : Option (List ℕ)) (head ended : List ℕ) → Appends old headed head
-    → Appends headed drawn (run_diagrams config range) → Appends drawn reported (run_text config (file_turns config)) → Appends reported new ended
-    → ended ≡ page_end → AppendsPage config range old new
-unfolding page_body
-page_written config range old headed drawn reported new head ended first second third last same = record {
-  head = head;
-  appends = Appends-more old headed new head (run_diagrams config range ++ (run_text config (file_turns config) ++ page_end)) first
-      (Appends-more headed drawn new (run_diagrams config range) (run_text config (file_turns config) ++ page_end) second
-      (Appends-more drawn reported new (run_text config (file_turns config)) page_end third
-      (subst (λ (t : List ℕ). Appends reported new t) same last)));
+pub page_written : (config : Configuration) (old headed drawn reported new : Option (List ℕ)) (head end : List ℕ) → Appends old headed head
+    → Grows headed drawn → Appends drawn reported (run_text config (file_turns config)) → Appends reported new end → AppendsPage config old new
+page_written config old headed drawn reported new head end first second third last = record {
+  head = head ++ second.text;
+  end = end;
+  appends = Appends-more old drawn new (head ++ second.text) (run_text config (file_turns config) ++ end)
+      (Appends-more old headed drawn head second.text first second.appends)
+      (Appends-more drawn reported new (run_text config (file_turns config)) end third last);
 }

@@ -1,3 +1,5 @@
 pub mod Ranges
 pub mod Lines
+pub mod Edges
+pub mod Cells
 pub mod Drawn

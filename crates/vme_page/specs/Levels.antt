@@ -1,22 +1,66 @@
--- The lines of the bus whose values last from one cell to the next.
-use Rattle.std.specs.Prelude.{List}
+-- The values of the lines of the bus before a cell.
+use Rattle.std.specs.Prelude.{ℕ, ◌-◌, List}
+use Rattle.vme_trace.specs.declared.observation.Observation.{Observation}
 use Rattle.vme_trace.specs.declared.dump.change.Change.{Change}
 use Rattle.vme_trace.specs.declared.dump.change.Value.TheVariants.{High, Free, Released}
+use Rattle.vme_trace.specs.declared.dump.variable.Variable.TheVariants.{AddressStrobe, AddressModifier, AddressLines, FirstAddressLine, LongWord, WriteLine, FirstStrobe, SecondStrobe, DataLines, UpperDataLines, Acknowledge, BusError}
+use Rattle.vme_trace.specs.Variables.{code_of}
+use Rattle.vme_trace.specs.Shown.{value_over, value_after_run}
 use Rattle.vme_page.specs.declared.diagram.levels.Levels.{Levels}
 use Rattle.vme_page.specs.declared.diagram.window.Window.{Window}
-use Rattle.vme_page.specs.Points.{bus, value_after}
+use Rattle.vme_page.specs.Windows.{first_edge, end_edge}
 
--- the values on an idle bus
+-- the values before the first event
 abbrev pub idle : Levels
-idle = record { strobe = High; modifier = Released; address = Released; a01 = Free; lword = Free; write = Free }
+idle = record {
+  address_strobe = High;
+  address_modifier = Released;
+  address_lines = Released;
+  first_address_line = Free;
+  long_word = Free;
+  write_line = Free;
+  first_strobe = High;
+  second_strobe = High;
+  data_lines = Released;
+  upper_data_lines = Released;
+  acknowledge = High;
+  bus_error = High;
+}
 
--- the values after a cell: AS*, AM5 to AM0, A31 to A02, A01, LWORD*, WRITE*
-unfoldable pub levels_after : Window → List Change → Levels → Levels
-levels_after window changes l = record {
-  strobe = value_after window (bus 73) l.strobe changes;
-  modifier = value_after window (bus 74) l.modifier changes;
-  address = value_after window (bus 75) l.address changes;
-  a01 = value_after window (bus 76) l.a01 changes;
-  lword = value_after window (bus 77) l.lword changes;
-  write = value_after window (bus 78) l.write changes;
+-- the values after so many edges of an event from one on
+unfoldable pub levels_over : List Change → ℕ → ℕ → Levels → Levels
+levels_over changes edge count l = record {
+  address_strobe = value_over (code_of AddressStrobe) changes edge count l.address_strobe;
+  address_modifier = value_over (code_of AddressModifier) changes edge count l.address_modifier;
+  address_lines = value_over (code_of AddressLines) changes edge count l.address_lines;
+  first_address_line = value_over (code_of FirstAddressLine) changes edge count l.first_address_line;
+  long_word = value_over (code_of LongWord) changes edge count l.long_word;
+  write_line = value_over (code_of WriteLine) changes edge count l.write_line;
+  first_strobe = value_over (code_of FirstStrobe) changes edge count l.first_strobe;
+  second_strobe = value_over (code_of SecondStrobe) changes edge count l.second_strobe;
+  data_lines = value_over (code_of DataLines) changes edge count l.data_lines;
+  upper_data_lines = value_over (code_of UpperDataLines) changes edge count l.upper_data_lines;
+  acknowledge = value_over (code_of Acknowledge) changes edge count l.acknowledge;
+  bus_error = value_over (code_of BusError) changes edge count l.bus_error;
+}
+
+-- the values after a cell
+abbrev pub levels_past : Window → List Change → Levels → Levels
+levels_past window changes l = levels_over changes (first_edge window) (end_edge window - first_edge window) l
+
+-- the values that the dump has after the first events of a run, on a backplane with so many boards
+unfoldable pub levels_after_run : ℕ → List Observation → Levels
+levels_after_run boards events = record {
+  address_strobe = value_after_run (code_of AddressStrobe) boards events High;
+  address_modifier = value_after_run (code_of AddressModifier) boards events Released;
+  address_lines = value_after_run (code_of AddressLines) boards events Released;
+  first_address_line = value_after_run (code_of FirstAddressLine) boards events Free;
+  long_word = value_after_run (code_of LongWord) boards events Free;
+  write_line = value_after_run (code_of WriteLine) boards events Free;
+  first_strobe = value_after_run (code_of FirstStrobe) boards events High;
+  second_strobe = value_after_run (code_of SecondStrobe) boards events High;
+  data_lines = value_after_run (code_of DataLines) boards events Released;
+  upper_data_lines = value_after_run (code_of UpperDataLines) boards events Released;
+  acknowledge = value_after_run (code_of Acknowledge) boards events High;
+  bus_error = value_after_run (code_of BusError) boards events High;
 }

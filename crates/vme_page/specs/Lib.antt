@@ -1,14 +1,9 @@
 pub mod Windows
-pub mod Levels
 pub mod Points
+pub mod Levels
 pub mod Layouts
-pub mod Shapes
-pub mod Rows
-pub mod Accesses
 pub mod Cells
-pub mod Headings
-pub mod Strips
+pub mod Accesses
 pub mod Diagrams
-pub mod Notes
 pub mod Drawings
 pub mod Pages

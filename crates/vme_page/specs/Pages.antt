@@ -4,20 +4,14 @@ use Rattle.std.specs.Io.KnownBytes.{Appends}
 use Rattle.vme_script.specs.Configurations.{Configuration}
 use Rattle.vme_stepper.specs.Schedules.{file_turns}
 use Rattle.vme_stepper.specs.Reports.{run_text}
-use Rattle.vme_trace.specs.Observations.{observations}
-use Rattle.vme_page.specs.declared.range.EventRange.{EventRange}
-use Rattle.vme_page.specs.Notes.{page_end}
-use Rattle.vme_page.specs.Drawings.{opening_drawing, diagrams_text}
 
--- the diagrams of the run of a configuration by the turns of its file, and what follows up to the report
-unfoldable pub run_diagrams : Configuration → EventRange → List ℕ
-run_diagrams config range = diagrams_text config range (opening_drawing config) (observations config (file_turns config))
+-- a byte model grew by some bytes
+pub record Grows (old new : Option (List ℕ)) : Type 0 where
+  pub text : List ℕ
+  pub appends : Appends old new text
 
--- the page after its head: the diagrams, and the report of `vme step`
-unfoldable pub page_body : Configuration → EventRange → List ℕ
-page_body config range = run_diagrams config range ++ (run_text config (file_turns config) ++ page_end)
-
--- a byte model grew by a page: a head, which has the style and an explanation, and then the body
-pub record AppendsPage (config : Configuration) (range : EventRange) (old new : Option (List ℕ)) : Type 0 where
+-- a byte model grew by a page: a head with diagrams, the report of `vme step`, and an end
+pub record AppendsPage (config : Configuration) (old new : Option (List ℕ)) : Type 0 where
   pub head : List ℕ
-  pub appends : Appends old new (head ++ page_body config range)
+  pub end : List ℕ
+  pub appends : Appends old new (head ++ (run_text config (file_turns config) ++ end))

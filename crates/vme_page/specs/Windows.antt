@@ -1,16 +1,30 @@
 -- Which edges of an event a cell shows, and where.
-use Rattle.std.specs.Prelude.{ℕ, ◌-◌, nat_le, nat_lt, Bool, true, List, [], ◌∷◌, Option, Some, None, slice_get}
+use Rattle.std.specs.Prelude.{ℕ, ◌-◌, nat_le, nat_lt, Bool, ◌&&◌, List, [], ◌∷◌, Option, Some, None, slice_get}
+use Rattle.vme_trace.specs.declared.dump.edge.TheConstants.{BEGIN, EDGES, FIRST, RELEASE, SECOND}
 use Rattle.vme_page.specs.declared.diagram.window.Window.{Window}
 use Rattle.vme_page.specs.declared.diagram.window.Window.TheVariants.{Whole, First, Second, Arbitration, Unanswered, Release}
 
+-- the first edge that a cell shows
+abbrev pub first_edge : Window → ℕ
+first_edge Whole = BEGIN
+first_edge First = BEGIN
+first_edge Second = SECOND
+first_edge Arbitration = BEGIN
+first_edge Unanswered = BEGIN
+first_edge Release = RELEASE
+
+-- the edge after the last one that a cell shows
+abbrev pub end_edge : Window → ℕ
+end_edge Whole = EDGES
+end_edge First = SECOND
+end_edge Second = EDGES
+end_edge Arbitration = EDGES
+end_edge Unanswered = RELEASE
+end_edge Release = EDGES
+
 -- whether a cell shows an edge
 abbrev pub shows : Window → ℕ → Bool
-shows Whole edge = true
-shows First edge = nat_lt edge 10
-shows Second edge = nat_le 10 edge
-shows Arbitration edge = true
-shows Unanswered edge = nat_lt edge 12
-shows Release edge = nat_le 12 edge
+shows window edge = nat_le (first_edge window) edge && nat_lt edge (end_edge window)
 
 -- a place, or the last one if there is none
 abbrev pub place_or : ℕ → Option ℕ → ℕ
@@ -25,11 +39,11 @@ handshake_place edge = place_or 100 (slice_get (4 ∷ 10 ∷ 20 ∷ 30 ∷ 40 �
 abbrev pub arbitration_place : ℕ → ℕ
 arbitration_place edge = place_or 66 (slice_get (12 ∷ 30 ∷ 48 ∷ 48 ∷ []) edge)
 
--- the place of an edge in a cell: a second handshake begins at edge 10, a release after a cycle at edge 12
+-- the place of an edge in a cell: a second handshake and a release after a cycle are drawn as if they came first
 abbrev pub place : Window → ℕ → ℕ
 place Whole edge = handshake_place edge
 place First edge = handshake_place edge
-place Second edge = handshake_place (edge - 9)
+place Second edge = handshake_place (edge - (SECOND - FIRST))
 place Arbitration edge = arbitration_place edge
 place Unanswered edge = handshake_place edge
-place Release edge = arbitration_place (edge - 12)
+place Release edge = arbitration_place (edge - RELEASE)

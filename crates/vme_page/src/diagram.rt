@@ -1,8 +1,9 @@
 //! The diagrams of a run, event by event.
-ghost use Rattle.std.specs.Prelude.{◌≡◌, ◌+◌, ◌≤◌, ◌++◌, codes, IfOk, OnOk};
-ghost use Rattle.vme_page.specs.Levels.{levels_after};
-ghost use Rattle.vme_page.specs.Cells.{cell_text};
-ghost use Rattle.vme_page.specs.Diagrams.{opening_diagram, is_long, one_window, first_window, second_window, datum_after, replying_slot, heading_of, start_of, closing, opening, cell_at, one_cell, two_cells, event_cells, after_one, after_two, diagram_after, diagram_past};
+ghost use Rattle.std.specs.Prelude.{◌≡◌, ◌+◌, ◌≤◌, [], IfOk, OnOk};
+ghost use Rattle.vme_page.specs.declared.diagram.window.Window.TheVariants.{Whole};
+ghost use Rattle.vme_page.specs.Levels.{idle, levels_past};
+ghost use Rattle.vme_page.specs.Layouts.{bars_after_run, layout_past};
+ghost use Rattle.vme_page.specs.Diagrams.{IsOneCell, AreTwoCells, IsWholeEvent};
 
 mod access;
 mod bars;
@@ -27,6 +28,7 @@ use crate::diagram::window::Window;
 use std::alloc::{AllocError, Global};
 use std::marker::Model;
 use vme_script::Config;
+use vme_trace::edge::{END, SECOND};
 use vme_trace::{Activity, Change, Observation};
 
 /// The number of cells of a strip.
@@ -52,7 +54,6 @@ impl Model for Diagram {
       layout = d.layout;
       levels = d.levels;
       column = d.column;
-      datum = d.datum;
     } };
 }
 
@@ -63,7 +64,8 @@ impl Diagram {
     ///
     /// An allocation failed.
     pub fn new(alloc: Global, config: &Config) -> Result<Diagram, AllocError>
-        ensures { IfOk result (λ diagram. diagram ≡ opening_diagram config.now) }
+        ensures levels { IfOk result (λ diagram. diagram.levels ≡ idle) }
+        ensures bars { IfOk result (λ diagram. diagram.layout.bars ≡ bars_after_run config.now []) }
     {
         Ok(Diagram {
             layout: Layout::new(alloc, config)?,
@@ -87,32 +89,25 @@ impl Diagram {
         event: &Observation,
         changes: &[Change],
     ) -> Result<(), AllocError>
-        ensures text { OnOk result (text.new.items
-            ≡ text.old.items ++ event_cells config.now self.old number event.now changes.now) }
-        ensures after { OnOk result (self.new ≡ diagram_after self.old event.now changes.now) }
+        ensures { OnOk result (IsWholeEvent changes.now self.old self.new) }
     {
         let heading = Heading {
             number,
             slot: replying_slot(config, event.slot, &event.activity),
             datum: datum_after(&event.activity, self.datum),
         };
-        if is_long(changes) {
-            self.print_two(text, event, changes, heading)?;
-        } else {
-            self.print_one(text, heading, event, changes)?;
-        }
+        self.print_cells(text, heading, event, changes)?;
         self.datum = heading.datum;
-        self.layout.record_changes(changes);
         Ok(())
     }
 
     /// Records an event that is not drawn, whose changes these are.
     pub fn pass_event(&mut self, event: &Observation, changes: &[Change])
-        ensures { self.new ≡ diagram_past self.old event.now changes.now }
+        ensures { IsWholeEvent changes.now self.old self.new }
     {
         self.datum = datum_after(&event.activity, self.datum);
-        self.levels = self.levels.after(Window::Whole, changes);
-        self.layout.record_changes(changes);
+        self.levels = self.levels.past(Window::Whole, changes);
+        self.layout.pass(Window::Whole, changes);
     }
 
     /// Appends the end of the open strip, if one is open. The next cell begins another.
@@ -121,16 +116,31 @@ impl Diagram {
     ///
     /// An allocation failed.
     pub fn print_end(&mut self, text: &mut Vec<u8>) -> Result<(), AllocError>
-        ensures text { OnOk result (text.new.items ≡ text.old.items ++ closing self.old.column) }
-        ensures after { self.new ≡ record self.old { column = 0 } }
+        ensures { self.new ≡ record self.old { column = 0 } }
     {
         let column = self.column;
         self.column = 0;
         print_closing(text, column)
     }
 
+    /// Appends the cells of an event.
+    fn print_cells(
+        &mut self,
+        text: &mut Vec<u8>,
+        heading: Heading,
+        event: &Observation,
+        changes: &[Change],
+    ) -> Result<(), AllocError>
+        ensures { OnOk result (IsWholeEvent changes.now self.old self.new) }
+    {
+        if is_long(changes) {
+            self.print_two(text, heading, event, changes)
+        } else {
+            self.print_one(text, heading, event, changes)
+        }
+    }
+
     /// Appends an event with one cell.
-    #[tactic(auto, unfolding(crate::specs::Diagrams::one_cell))]
     fn print_one(
         &mut self,
         text: &mut Vec<u8>,
@@ -138,51 +148,36 @@ impl Diagram {
         event: &Observation,
         changes: &[Change],
     ) -> Result<(), AllocError>
-        ensures text { OnOk result (text.new.items
-            ≡ text.old.items ++ one_cell self.old heading event.now changes.now) }
-        ensures after { OnOk result (self.new ≡ record self.old {
-          levels = levels_after (one_window event.now.activity) changes.now self.old.levels;
-          column = start_of self.old.column 1 + 1;
-        }) }
+        ensures { OnOk result (IsWholeEvent changes.now self.old self.new) }
     {
+        let window = one_window(&event.activity);
         self.open_strip(text, heading.number, 1)?;
-        self.print_cell(text, one_window(&event.activity), heading, event, changes)
+        self.print_cell(text, window, heading, event, changes)?;
+        Ok(())
     }
 
     /// Appends an event with two cells.
-    #[tactic(auto, unfolding(crate::specs::Diagrams::two_cells))]
     fn print_two(
         &mut self,
         text: &mut Vec<u8>,
+        heading: Heading,
         event: &Observation,
         changes: &[Change],
-        heading: Heading,
     ) -> Result<(), AllocError>
-        ensures text { OnOk result (text.new.items
-            ≡ text.old.items ++ two_cells self.old heading event.now changes.now) }
-        ensures after { OnOk result (self.new ≡ record self.old {
-          levels = levels_after (second_window event.now.activity) changes.now
-              (levels_after (first_window event.now.activity) changes.now self.old.levels);
-          column = start_of self.old.column 2 + 2;
-        }) }
+        ensures { OnOk result (IsWholeEvent changes.now self.old self.new) }
     {
+        let (first, second) = two_windows(&event.activity);
         self.open_strip(text, heading.number, 2)?;
-        self.print_cell(text, first_window(&event.activity), heading, event, changes)?;
-        self.print_cell(
-            text,
-            second_window(&event.activity),
-            heading,
-            event,
-            changes,
-        )
+        self.print_cell(text, first, heading, event, changes)?;
+        self.print_cell(text, second, heading, event, changes)?;
+        Ok(())
     }
 
     /// Begins a strip, unless so many cells fit into the open one.
     fn open_strip(&mut self, text: &mut Vec<u8>, number: u32, count: u8) -> Result<(), AllocError>
         requires { count ≤ 2 }
-        ensures text { OnOk result (text.new.items ≡ text.old.items
-            ++ opening self.old.layout self.old.column (start_of self.old.column count) number) }
-        ensures start { self.new ≡ record self.old { column = start_of self.old.column count } }
+        ensures levels { self.new.levels ≡ self.old.levels }
+        ensures layout { self.new.layout ≡ self.old.layout }
         ensures fits { self.new.column + count ≤ 10 }
     {
         let column = self.column;
@@ -204,12 +199,11 @@ impl Diagram {
         changes: &[Change],
     ) -> Result<(), AllocError>
         requires { self.old.column + 1 ≤ 10 }
-        ensures text { OnOk result (text.new.items ≡ text.old.items
-            ++ cell_at self.old window self.old.column self.old.levels heading event.now changes.now) }
-        ensures after { OnOk result (self.new ≡ record self.old {
-          levels = levels_after window changes.now self.old.levels;
-          column = self.old.column + 1;
-        }) }
+        ensures levels { OnOk result
+            (self.new.levels ≡ levels_past window changes.now self.old.levels) }
+        ensures layout { OnOk result
+            (self.new.layout ≡ layout_past window changes.now self.old.layout) }
+        ensures column { OnOk result (self.new.column ≡ self.old.column + 1) }
     {
         let cell = Cell {
             window,
@@ -226,23 +220,22 @@ impl Diagram {
             changes,
         )?;
         self.column += 1;
-        self.levels = self.levels.after(window, changes);
+        self.levels = self.levels.past(window, changes);
+        self.layout.pass(window, changes);
         Ok(())
     }
 }
 
 /// Returns whether something changes after the first handshake of an event.
-fn is_long(changes: &[Change]) -> bool
-    ensures { result ≡ is_long changes.now }
-{
+fn is_long(changes: &[Change]) -> bool {
     changes
         .iter()
-        .any(|change| 11 <= change.edge && change.edge < 19)
+        .any(|change| SECOND < change.edge && change.edge < END)
 }
 
 /// Returns the cell of an event that has one.
 fn one_window(activity: &Activity) -> Window
-    ensures { result ≡ one_window activity.now }
+    ensures { IsOneCell result }
 {
     match activity {
         Activity::Requests | Activity::Polls | Activity::Releases(_) => Window::Arbitration,
@@ -250,30 +243,18 @@ fn one_window(activity: &Activity) -> Window
     }
 }
 
-/// Returns the first cell of an event that has two.
-fn first_window(activity: &Activity) -> Window
-    ensures { result ≡ first_window activity.now }
+/// Returns the cells of an event that has two.
+fn two_windows(activity: &Activity) -> (Window, Window)
+    ensures { AreTwoCells result.0 result.1 }
 {
     match activity {
-        Activity::Releases(_) => Window::Unanswered,
-        _ => Window::First,
-    }
-}
-
-/// Returns the second cell of an event that has two.
-fn second_window(activity: &Activity) -> Window
-    ensures { result ≡ second_window activity.now }
-{
-    match activity {
-        Activity::Releases(_) => Window::Release,
-        _ => Window::Second,
+        Activity::Releases(_) => (Window::Unanswered, Window::Release),
+        _ => (Window::First, Window::Second),
     }
 }
 
 /// Returns the number of the last datum after an event.
-fn datum_after(activity: &Activity, datum: u32) -> u32
-    ensures { result ≡ datum_after activity.now datum }
-{
+fn datum_after(activity: &Activity, datum: u32) -> u32 {
     match activity {
         Activity::Transfers(transferred) if transferred.first => 1,
         Activity::Transfers(_) if datum < u32::MAX => datum + 1,
@@ -282,9 +263,7 @@ fn datum_after(activity: &Activity, datum: u32) -> u32
 }
 
 /// Returns the slot of the board that replies to an activity; that of the processor if none does.
-fn replying_slot(config: &Config, own: u16, activity: &Activity) -> u16
-    ensures { result ≡ replying_slot config.now own activity.now }
-{
+fn replying_slot(config: &Config, own: u16, activity: &Activity) -> u16 {
     match activity {
         Activity::Transfers(datum) if datum.board < config.boards() => slot_of(config, datum.board),
         _ => own,
@@ -295,16 +274,13 @@ fn replying_slot(config: &Config, own: u16, activity: &Activity) -> u16
 fn start_of(column: u8, count: u8) -> u8
     requires column { column ≤ 10 }
     requires count { count ≤ 2 }
-    ensures start { result ≡ start_of column count }
-    ensures fits { result + count ≤ 10 }
+    ensures { result + count ≤ 10 }
 {
     if CELLS < column + count { 0 } else { column }
 }
 
 /// Appends the end of the open strip, if one is open.
-fn print_closing(text: &mut Vec<u8>, column: u8) -> Result<(), AllocError>
-    ensures { OnOk result (text.new.items ≡ text.old.items ++ closing column) }
-{
+fn print_closing(text: &mut Vec<u8>, column: u8) -> Result<(), AllocError> {
     if column == 0 {
         return Ok(());
     }

@@ -1,15 +1,15 @@
 //! The diagrams of a run, turn by turn.
-ghost use Rattle.std.specs.Prelude.{◌≡◌, ◌≤◌, ◌<◌, ◌-◌, ◌^◌, ◌⊎◌, ◌∷◌, [], false, length, IfErr, OnOk, OnErr, MatchOption};
-ghost use Rattle.std.specs.Io.KnownBytes.{Appends};
-ghost use Rattle.vme_io.specs.Prefixes.{AppendsPrefix, GathersOrStops};
+ghost use Rattle.std.specs.Prelude.{◌≡◌, ◌≤◌, ◌<◌, ◌+◌, ◌-◌, ◌^◌, ◌∷◌, ◌++◌, [], List, false, IfErr, IfSome, OnOk};
+ghost use Rattle.std.specs.Option.{option_to_list};
 ghost use Rattle.vme_report.specs.Ends.{IsReportFault, is_write_end};
 ghost use Rattle.vme_script.specs.Lawful.{IsLawful};
 ghost use Rattle.vme_stepper.specs.Turns.{board_in_slot, initial_state};
 ghost use Rattle.vme_stepper.specs.Steppers.{stepper_of, stepper_turn_at, IsStepperOf, StepsWithin};
 ghost use Rattle.vme_trace.specs.Observations.{observed_at};
 ghost use Rattle.vme_trace.specs.Turns.{turns_left, IsTurnsOf};
-ghost use Rattle.vme_page.specs.Drawings.{opening_drawing, shown_text, drawing_after, turn_text, turn_after};
-ghost use Rattle.vme_page.specs.Pages.{run_diagrams};
+ghost use Rattle.vme_trace.specs.declared.observation.Observation.{Observation};
+ghost use Rattle.vme_page.specs.Drawings.{ShowsRun};
+ghost use Rattle.vme_page.specs.Pages.{Grows};
 
 use crate::drawing::Drawing;
 use crate::range::EventRange;
@@ -28,10 +28,7 @@ pub(crate) fn write_diagrams<W: Sink>(
     writer: &mut W,
 ) -> Result<(), RunFault>
     requires { W.is_marked writer.old ≡ false }
-    ensures text { OnOk result (Appends (W.contents writer.old) (W.contents writer.new)
-        (run_diagrams config.now range)) }
-    ensures prefix { OnErr result (AppendsPrefix (W.contents writer.old) (W.contents writer.new)
-        (run_diagrams config.now range)) }
+    ensures grows { OnOk result (Grows (W.contents writer.old) (W.contents writer.new)) }
     ensures write { W.is_marked writer.new ≡ is_write_end result }
     ensures faults { IfErr result IsReportFault }
 {
@@ -55,13 +52,12 @@ fn draw_turns<'a, W: Sink>(
     text: &mut Vec<u8>,
     writer: &mut W,
 ) -> Result<(), RunFault>
-    requires drawing { drawing.old ≡ opening_drawing config.now }
+    requires drawing { ShowsRun config.now [] drawing.old }
     requires lawful { IsLawful config.now }
     requires opening { stepper.old ≡ stepper_of config.now (initial_state config.now) }
     requires stepper { IsStepperOf config.now stepper.old }
     requires unmarked { W.is_marked writer.old ≡ false }
-    ensures gathers { GathersOrStops result (W.contents writer.old) (W.contents writer.new)
-        text.old.items text.new.items (run_diagrams config.now range) }
+    ensures grows { OnOk result (Grows (W.contents writer.old) (W.contents writer.new)) }
     ensures write { W.is_marked writer.new ≡ is_write_end result }
     ensures faults { IfErr result IsReportFault }
 {
@@ -77,10 +73,8 @@ fn draw_turns<'a, W: Sink>(
 /// are shown.
 fn next_turn(turns: &mut FileTurns, config: &Config, range: EventRange, count: u32) -> Option<u16>
     requires { IsTurnsOf config.now turns.old }
-    ensures next { MatchOption result
-        ((turns_left config.now turns.old ≡ []) ⊎ (range.last < count))
-        (λ slot. (turns_left config.now turns.old ≡ slot ∷ turns_left config.now turns.new)
-        × (count ≤ range.last)) }
+    ensures next { IfSome result (λ slot.
+        turns_left config.now turns.old ≡ slot ∷ turns_left config.now turns.new) }
     ensures board { IsTurnsOf config.now turns.new }
 {
     if range.last < count {
@@ -109,11 +103,11 @@ fn draw_turn<'a, W: Sink>(
     ensures sound { OnOk result (IsStepperOf config.now stepper.new) }
     ensures turn { OnOk result
         (stepper.new ≡ stepper_turn_at config.now stepper.old (board_in_slot config.now slot)) }
-    ensures drawn { OnOk result (drawing.new ≡ turn_after config.now range drawing.old
-        (observed_at config.now stepper.old (board_in_slot config.now slot))) }
-    ensures gathers { GathersOrStops result (W.contents writer.old) (W.contents writer.new)
-        text.old.items text.new.items (turn_text config.now range drawing.old
-        (observed_at config.now stepper.old (board_in_slot config.now slot))) }
+    ensures count { OnOk result (drawing.new.count ≤ drawing.old.count + 1) }
+    ensures shows { (events : List Observation) → ShowsRun config.now events drawing.old →
+        OnOk result (ShowsRun config.now (events ++ option_to_list
+        (observed_at config.now stepper.old (board_in_slot config.now slot))) drawing.new) }
+    ensures grows { OnOk result (Grows (W.contents writer.old) (W.contents writer.new)) }
     ensures write { W.is_marked writer.new ≡ is_write_end result }
     ensures faults { IfErr result IsReportFault }
 {
@@ -127,7 +121,6 @@ fn draw_turn<'a, W: Sink>(
 }
 
 /// Gathers an event if it is shown.
-#[tactic(auto, using(vme_io::proofs::lemmas::Gathering::printed_gathers, vme_io::proofs::lemmas::Gathering::printed_prefix, vme_io::proofs::lemmas::Gathering::nothing_prefix))]
 fn gather_event<W: Sink>(
     config: &Config,
     event: &Observation,
@@ -138,10 +131,10 @@ fn gather_event<W: Sink>(
 ) -> Result<(), RunFault>
     requires few { drawing.old.count < 2 ^ 32 - 1 }
     requires unmarked { W.is_marked writer.old ≡ false }
-    ensures drawn { OnOk result
-        (drawing.new ≡ drawing_after config.now range drawing.old event.now) }
-    ensures gathers { GathersOrStops result (W.contents writer.old) (W.contents writer.new)
-        text.old.items text.new.items (shown_text config.now range drawing.old event.now) }
+    ensures count { OnOk result (drawing.new.count ≡ drawing.old.count + 1) }
+    ensures shows { (events : List Observation) → ShowsRun config.now events drawing.old →
+        OnOk result (ShowsRun config.now (events ++ event.now ∷ []) drawing.new) }
+    ensures grows { OnOk result (Grows (W.contents writer.old) (W.contents writer.new)) }
     ensures write { W.is_marked writer.new ≡ is_write_end result }
     ensures faults { IfErr result IsReportFault }
 {

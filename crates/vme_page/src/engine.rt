@@ -34,7 +34,7 @@ pub fn page_engine<R: Source, W: Sink>(
     requires writer_unmarked { W.is_marked writer.old ≡ false }
     ensures page { (config : Configuration) → IfSome (R.remaining reader.old) (λ input.
         Configures input config → OnOk result
-        (AppendsPage config range (W.contents writer.old) (W.contents writer.new))) }
+        (AppendsPage config (W.contents writer.old) (W.contents writer.new))) }
     ensures write { W.is_marked writer.new ≡ is_write_failure result }
     ensures read { IfSome (R.remaining reader.old) (λ input.
         IfOk result (λ _. (config : Configuration) × Configures input config)) }

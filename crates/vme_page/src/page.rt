@@ -31,7 +31,7 @@ pub fn write_page<W: Sink>(
 ) -> Result<(), RunFault>
     requires { W.is_marked writer.old ≡ false }
     ensures page { OnOk result
-        (AppendsPage config.now range (W.contents writer.old) (W.contents writer.new)) }
+        (AppendsPage config.now (W.contents writer.old) (W.contents writer.new)) }
     ensures write { W.is_marked writer.new ≡ is_write_end result }
     ensures faults { IfErr result IsReportFault }
 {

@@ -2,7 +2,6 @@
 use Rattle.std.proofs.Common.{◌≡◌, ℕ, ◌+◌, ◌≤◌, List, [], ◌∷◌, ◌++◌, length, Option, Some, None, IfSome, Result, Ok, Err, OnErr, refl, ap, sym, inr, ◌∙◌, arith, append_assoc}
 use Rattle.std.specs.Option.{option_to_list}
 use Rattle.std.proofs.lemmas.List.{append-nil}
-use Rattle.std.specs.Io.KnownBytes.{Appends}
 use Rattle.vme_io.specs.Prefixes.{AppendsPrefix, Gathers}
 use Rattle.vme_io.proofs.lemmas.Gathering.{SoFar}
 use Rattle.vme_io.proofs.lemmas.Appending.{Appends-none}

@@ -1,5 +1,5 @@
 -- What a processor does in a turn.
-use Rattle.std.specs.Prelude.{ℕ, ◌+◌, ◌==◌, Bool, if◌then◌else◌, Option, Some, None}
+use Rattle.std.specs.Prelude.{ℕ, ◌+◌, ◌==◌, if◌then◌else◌, Option, Some, None}
 use Rattle.vme_cycle.specs.Requests.{count_of, function_of}
 use Rattle.vme_cycle.specs.SignalLines.{SignalLines}
 use Rattle.vme_cycle.specs.Plans.{signals_of}

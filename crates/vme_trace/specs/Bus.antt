@@ -3,13 +3,17 @@ use Rattle.std.specs.Prelude.{ℕ, ◌+◌, ◌-◌, ◌*◌, ◌/◌, ◌%◌, 
 use Rattle.vme_trace.specs.declared.dump.change.Change.{Change}
 use Rattle.vme_trace.specs.declared.dump.change.Value.TheVariants.{Low, High, Free, Released, Number, Lanes}
 use Rattle.vme_trace.specs.declared.dump.handshake.Handshake.{Handshake}
-use Rattle.vme_trace.specs.Changes.{bus_code, level_of, change_if}
+use Rattle.vme_trace.specs.declared.dump.edge.TheConstants.{BEGIN, FIRST, SECOND, MASTER_DRIVES, STROBES_FALL, BOARD_DRIVES, ANSWER_FALLS, STROBES_RISE, DATA_RELEASED, ANSWER_RISES, ADDRESS_RELEASED}
+use Rattle.vme_trace.specs.declared.dump.variable.Variable.{Variable}
+use Rattle.vme_trace.specs.declared.dump.variable.Variable.TheVariants.{AddressStrobe, AddressModifier, AddressLines, FirstAddressLine, LongWord, WriteLine, FirstStrobe, SecondStrobe, DataLines, UpperDataLines, Acknowledge, BusError}
+use Rattle.vme_trace.specs.Variables.{code_of}
+use Rattle.vme_trace.specs.Changes.{level_of, change_if}
 use Rattle.vme_trace.specs.Handshakes.{edge_of}
 
 -- the edge at which the data are driven: by the master at the begin, and by the board once the strobes are low;
 -- IEEE 1014-1987, 2.4 (data transfer bus timing)
 abbrev pub drive_edge : Handshake → ℕ
-drive_edge t = if t.lines.write then edge_of t 2 else edge_of t 0
+drive_edge t = if t.lines.write then edge_of t BOARD_DRIVES else edge_of t MASTER_DRIVES
 
 -- the byte on a lane; 0 if it carries none
 abbrev pub byte_on : Option ℕ → ℕ
@@ -39,61 +43,61 @@ is_wide t = t.lines.am.wide && t.carries
 -- AS* and the address modifier; IEEE 1014-1987, 2.2.2 (address modifier lines) and 2.4
 unfoldable pub address_strobe_changes : Handshake → List Change
 address_strobe_changes t =
-    change_if t.opens 1 (bus_code 73) Low
-    ++ (change_if t.ends (edge_of t 6) (bus_code 73) High
-    ++ (change_if t.opens 0 (bus_code 74) (Number 6 t.lines.am.code)
-    ++ change_if t.ends (edge_of t 9) (bus_code 74) Released))
+    change_if t.opens FIRST (code_of AddressStrobe) Low
+    ++ (change_if t.ends (edge_of t STROBES_RISE) (code_of AddressStrobe) High
+    ++ (change_if t.opens BEGIN (code_of AddressModifier) (Number 6 t.lines.am.code)
+    ++ change_if t.ends (edge_of t ADDRESS_RELEASED) (code_of AddressModifier) Released))
 
 -- A31 to A02, which carry D63 to D34 in eight-byte data
 unfoldable pub address_changes : Handshake → List Change
 address_changes t =
-    change_if t.opens 0 (bus_code 75) (Number 32 t.lines.addr)
-    ++ (change_if t.clears 10 (bus_code 75) Released
-    ++ (change_if (is_wide t) (drive_edge t) (bus_code 75) (Number 32 (upper_number t.lines.lanes - upper_number t.lines.lanes % 4))
-    ++ (change_if (is_wide t) (edge_of t 7) (bus_code 75) Released
-    ++ change_if t.ends (edge_of t 9) (bus_code 75) Released)))
+    change_if t.opens BEGIN (code_of AddressLines) (Number 32 t.lines.addr)
+    ++ (change_if t.clears SECOND (code_of AddressLines) Released
+    ++ (change_if (is_wide t) (drive_edge t) (code_of AddressLines) (Number 32 (upper_number t.lines.lanes - upper_number t.lines.lanes % 4))
+    ++ (change_if (is_wide t) (edge_of t DATA_RELEASED) (code_of AddressLines) Released
+    ++ change_if t.ends (edge_of t ADDRESS_RELEASED) (code_of AddressLines) Released)))
 
 -- a line that shows a level with the address, and a bit of eight-byte data
-abbrev pub address_level_changes : Handshake → ℕ → Bool → Bool → List Change
-address_level_changes t letter level bit =
-    change_if t.opens 0 (bus_code letter) (level_of level)
-    ++ (change_if t.clears 10 (bus_code letter) Free
-    ++ (change_if (is_wide t) (drive_edge t) (bus_code letter) (level_of bit)
-    ++ (change_if (is_wide t) (edge_of t 7) (bus_code letter) Free
-    ++ change_if t.ends (edge_of t 9) (bus_code letter) Free)))
+abbrev pub address_level_changes : Handshake → Variable → Bool → Bool → List Change
+address_level_changes t variable level bit =
+    change_if t.opens BEGIN (code_of variable) (level_of level)
+    ++ (change_if t.clears SECOND (code_of variable) Free
+    ++ (change_if (is_wide t) (drive_edge t) (code_of variable) (level_of bit)
+    ++ (change_if (is_wide t) (edge_of t DATA_RELEASED) (code_of variable) Free
+    ++ change_if t.ends (edge_of t ADDRESS_RELEASED) (code_of variable) Free)))
 
 -- A01, LWORD* and WRITE*
 unfoldable pub level_changes : Handshake → List Change
 level_changes t =
-    address_level_changes t 76 t.lines.strobes.a01 (upper_number t.lines.lanes / 2 % 2 == 1)
-    ++ (address_level_changes t 77 t.lines.strobes.lword (upper_number t.lines.lanes % 2 == 1)
-    ++ (change_if t.opens 0 (bus_code 78) (level_of t.lines.write)
-    ++ (change_if t.falls 10 (bus_code 78) Low
-    ++ change_if t.ends (edge_of t 9) (bus_code 78) Free)))
+    address_level_changes t FirstAddressLine t.lines.strobes.a01 (upper_number t.lines.lanes / 2 % 2 == 1)
+    ++ (address_level_changes t LongWord t.lines.strobes.lword (upper_number t.lines.lanes % 2 == 1)
+    ++ (change_if t.opens BEGIN (code_of WriteLine) (level_of t.lines.write)
+    ++ (change_if t.falls SECOND (code_of WriteLine) Low
+    ++ change_if t.ends (edge_of t ADDRESS_RELEASED) (code_of WriteLine) Free)))
 
 -- DS1* and DS0*, those that the location has low; IEEE 1014-1987, 2.2.1 and 2.4
 unfoldable pub data_strobe_changes : Handshake → List Change
 data_strobe_changes t =
-    change_if (not t.lines.strobes.ds1) (edge_of t 1) (bus_code 79) Low
-    ++ (change_if (not t.lines.strobes.ds1) (edge_of t 6) (bus_code 79) High
-    ++ (change_if (not t.lines.strobes.ds0) (edge_of t 1) (bus_code 80) Low
-    ++ change_if (not t.lines.strobes.ds0) (edge_of t 6) (bus_code 80) High))
+    change_if (not t.lines.strobes.ds1) (edge_of t STROBES_FALL) (code_of FirstStrobe) Low
+    ++ (change_if (not t.lines.strobes.ds1) (edge_of t STROBES_RISE) (code_of FirstStrobe) High
+    ++ (change_if (not t.lines.strobes.ds0) (edge_of t STROBES_FALL) (code_of SecondStrobe) Low
+    ++ change_if (not t.lines.strobes.ds0) (edge_of t STROBES_RISE) (code_of SecondStrobe) High))
 
 -- D31 to D00, and D63 to D32 of eight-byte data
 unfoldable pub data_changes : Handshake → List Change
 data_changes t =
-    change_if t.carries (drive_edge t) (bus_code 81) (Lanes (lower_lanes t.lines.lanes))
-    ++ (change_if t.carries (edge_of t 7) (bus_code 81) Released
-    ++ (change_if (is_wide t) (drive_edge t) (bus_code 82) (Lanes (upper_lanes t.lines.lanes))
-    ++ change_if (is_wide t) (edge_of t 7) (bus_code 82) Released))
+    change_if t.carries (drive_edge t) (code_of DataLines) (Lanes (lower_lanes t.lines.lanes))
+    ++ (change_if t.carries (edge_of t DATA_RELEASED) (code_of DataLines) Released
+    ++ (change_if (is_wide t) (drive_edge t) (code_of UpperDataLines) (Lanes (upper_lanes t.lines.lanes))
+    ++ change_if (is_wide t) (edge_of t DATA_RELEASED) (code_of UpperDataLines) Released))
 
 -- DTACK* or BERR*, which falls while a strobe is low, and rises after both are high; IEEE 1014-1987, 2.4
 unfoldable pub answer_changes : Handshake → List Change
 answer_changes t =
-    change_if (not t.berr) (edge_of t 3) (bus_code 83) Low
-    ++ (change_if (not t.berr) (edge_of t 8) (bus_code 83) High
-    ++ (change_if t.berr (edge_of t 3) (bus_code 84) Low
-    ++ change_if t.berr (edge_of t 8) (bus_code 84) High))
+    change_if (not t.berr) (edge_of t ANSWER_FALLS) (code_of Acknowledge) Low
+    ++ (change_if (not t.berr) (edge_of t ANSWER_RISES) (code_of Acknowledge) High
+    ++ (change_if t.berr (edge_of t ANSWER_FALLS) (code_of BusError) Low
+    ++ change_if t.berr (edge_of t ANSWER_RISES) (code_of BusError) High))
 
 -- the lines of the bus in a handshake, in order of the variables
 unfoldable pub handshake_changes : Handshake → List Change

@@ -7,14 +7,7 @@ use Rattle.vme_trace.specs.declared.dump.change.Code.{Code}
 use Rattle.vme_trace.specs.declared.dump.change.Value.{Value}
 use Rattle.vme_trace.specs.declared.dump.change.Value.TheVariants.{Low, High, Free, Released, Number, Lanes}
 use Rattle.vme_trace.specs.declared.dump.change.Change.{Change}
-
--- the code of a variable of the bus
-abbrev pub bus_code : ℕ → Code
-bus_code letter = record { first = letter; second = None }
-
--- the code of a variable of a board's slot: `a` for the first board, and a letter for the variable
-abbrev pub slot_code : ℕ → ℕ → Code
-slot_code board letter = record { first = 97 + board; second = Some letter }
+use Rattle.vme_trace.specs.declared.dump.edge.TheConstants.{EDGES}
 
 -- the level of a line
 abbrev pub level_of : Bool → Value
@@ -66,9 +59,9 @@ abbrev pub edge_text : ℕ → List Change → ℕ → List ℕ
 edge_text n changes k =
     if list_any (λ c. c.edge == k) changes then time_text (100 * n + 5 * k) ++ flat_map (text_at k) changes else []
 
--- event n: its twenty edges
+-- event n: its edges
 unfoldable pub event_text : ℕ → List Change → List ℕ
-event_text n changes = flat_map (edge_text n changes) (range_with_len 0 20)
+event_text n changes = flat_map (edge_text n changes) (range_with_len 0 EDGES)
 
 -- the end, after n events
 abbrev pub end_text : ℕ → List ℕ

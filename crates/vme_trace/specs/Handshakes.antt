@@ -12,11 +12,12 @@ use Rattle.vme_core.specs.declared.event.EventReply.TheVariants as replies
 use Rattle.vme_trace.specs.declared.observation.activity.TransferredDatum.{TransferredDatum}
 use Rattle.vme_trace.specs.declared.observation.activity.Activity.{Activity}
 use Rattle.vme_trace.specs.declared.observation.activity.Activity.TheVariants.{Releases, Transfers}
+use Rattle.vme_trace.specs.declared.dump.edge.TheConstants.{FIRST, SECOND}
 use Rattle.vme_trace.specs.declared.dump.handshake.Handshake.{Handshake}
 
 -- an edge of a handshake, by the number of edges after its begin
 abbrev pub edge_of : Handshake → ℕ → ℕ
-edge_of t after = if t.late then 10 + after else 1 + after
+edge_of t after = if t.late then SECOND + after else FIRST + after
 
 -- whether some lane carries a byte
 abbrev pub carries_byte : SignalLines → Bool

@@ -1,6 +1,7 @@
 pub mod Activities
 pub mod Grants
 pub mod Observations
+pub mod Variables
 pub mod Changes
 pub mod Handshakes
 pub mod Bus
@@ -8,5 +9,6 @@ pub mod Ports
 pub mod Slots
 pub mod Events
 pub mod Headers
+pub mod Shown
 pub mod Turns
 pub mod Traces

@@ -10,7 +10,10 @@ use Rattle.vme_trace.specs.declared.dump.change.Code.{Code}
 use Rattle.vme_trace.specs.declared.dump.change.Change.{Change}
 use Rattle.vme_trace.specs.declared.dump.change.Value.TheVariants.{Low, High, Free, Released, Number, Lanes}
 use Rattle.vme_trace.specs.declared.dump.port.PortAccess.{PortAccess}
-use Rattle.vme_trace.specs.Changes.{slot_code, level_of, change_if}
+use Rattle.vme_trace.specs.declared.dump.edge.TheConstants.{BEGIN, FIRST, SECOND, BOARD_DRIVES, ANSWER_FALLS, STROBES_RISE, DATA_RELEASED, ANSWER_RISES, ADDRESS_RELEASED}
+use Rattle.vme_trace.specs.declared.dump.variable.Variable.TheVariants.{PortSelect, PortWrite, PortOffset, PortData, PortDone, PortError}
+use Rattle.vme_trace.specs.Variables.{code_of}
+use Rattle.vme_trace.specs.Changes.{level_of, change_if}
 use Rattle.vme_trace.specs.Handshakes.{is_berr}
 
 -- one, two or four bytes on the low lanes; no other number of bytes is accessed
@@ -43,23 +46,23 @@ port_access (given.LocalWrite offset bytes) reply = Some (access offset true (po
 port_access (given.LocalModify offset n f) reply = Some (access offset false (reply_lanes reply) (new_lanes f reply) (is_berr reply))
 port_access (given.Cycle signals at f) reply = None
 
--- the edge that comes so many edges after the begin of the last handshake, which begins at 10 in a read-modify-write
+-- the edge that comes so many edges after the begin of the last handshake, the second in a read-modify-write
 abbrev pub last_edge : PortAccess → ℕ → ℕ
-last_edge a after = if is_some a.new then 10 + after else 1 + after
+last_edge a after = if is_some a.new then SECOND + after else FIRST + after
 
 -- the select line
 unfoldable pub select_changes : ℕ → PortAccess → List Change
 select_changes board a =
-    change_if true 1 (slot_code board 102) High ++ change_if true (last_edge a 6) (slot_code board 102) Low
+    change_if true FIRST (code_of (PortSelect board)) High ++ change_if true (last_edge a STROBES_RISE) (code_of (PortSelect board)) Low
 
 -- the write line and the offset
 unfoldable pub control_changes : ℕ → PortAccess → List Change
 control_changes board a =
-    change_if true 0 (slot_code board 103) (level_of a.write)
-    ++ (change_if (is_some a.new) 10 (slot_code board 103) High
-    ++ (change_if true (last_edge a 9) (slot_code board 103) Free
-    ++ (change_if true 0 (slot_code board 104) (Number 32 a.offset)
-    ++ change_if true (last_edge a 9) (slot_code board 104) Released)))
+    change_if true BEGIN (code_of (PortWrite board)) (level_of a.write)
+    ++ (change_if (is_some a.new) SECOND (code_of (PortWrite board)) High
+    ++ (change_if true (last_edge a ADDRESS_RELEASED) (code_of (PortWrite board)) Free
+    ++ (change_if true BEGIN (code_of (PortOffset board)) (Number 32 a.offset)
+    ++ change_if true (last_edge a ADDRESS_RELEASED) (code_of (PortOffset board)) Released)))
 
 -- lanes with bytes, if there are some
 abbrev pub lanes_if : Option (List (Option ℕ)) → ℕ → Code → List Change
@@ -69,18 +72,18 @@ lanes_if (Some lanes) edge code = change_if true edge code (Lanes lanes)
 -- the data: driven by the processor at the begin of a write, and by the memory in a read
 unfoldable pub bytes_changes : ℕ → PortAccess → List Change
 bytes_changes board a =
-    lanes_if a.bytes (if a.write then 1 else 3) (slot_code board 105)
-    ++ (change_if (is_some a.bytes) 8 (slot_code board 105) Released
-    ++ (lanes_if a.new 10 (slot_code board 105) ++ change_if (is_some a.new) 17 (slot_code board 105) Released))
+    lanes_if a.bytes (if a.write then FIRST else FIRST + BOARD_DRIVES) (code_of (PortData board))
+    ++ (change_if (is_some a.bytes) (FIRST + DATA_RELEASED) (code_of (PortData board)) Released
+    ++ (lanes_if a.new SECOND (code_of (PortData board)) ++ change_if (is_some a.new) (SECOND + DATA_RELEASED) (code_of (PortData board)) Released))
 
 -- the reply: done, or a bus error
 unfoldable pub reply_changes : ℕ → PortAccess → List Change
 reply_changes board a =
-    change_if (not a.berr) 4 (slot_code board 106) High
-    ++ (change_if (not a.berr) 9 (slot_code board 106) Low
-    ++ (change_if (is_some a.new) 13 (slot_code board 106) High
-    ++ (change_if (is_some a.new) 18 (slot_code board 106) Low
-    ++ (change_if a.berr 4 (slot_code board 107) High ++ change_if a.berr 9 (slot_code board 107) Low))))
+    change_if (not a.berr) (FIRST + ANSWER_FALLS) (code_of (PortDone board)) High
+    ++ (change_if (not a.berr) (FIRST + ANSWER_RISES) (code_of (PortDone board)) Low
+    ++ (change_if (is_some a.new) (SECOND + ANSWER_FALLS) (code_of (PortDone board)) High
+    ++ (change_if (is_some a.new) (SECOND + ANSWER_RISES) (code_of (PortDone board)) Low
+    ++ (change_if a.berr (FIRST + ANSWER_FALLS) (code_of (PortError board)) High ++ change_if a.berr (FIRST + ANSWER_RISES) (code_of (PortError board)) Low))))
 
 -- the local port of a board in an event, in order of the variables
 unfoldable pub port_changes : ℕ → PortAccess → List Change

@@ -10,7 +10,10 @@ use Rattle.vme_trace.specs.declared.dump.handshake.Handshake.{Handshake}
 use Rattle.vme_trace.specs.declared.dump.change.Change.{Change}
 use Rattle.vme_trace.specs.declared.dump.change.Value.TheVariants.{Low, High, Released, Number}
 use Rattle.vme_trace.specs.declared.dump.port.PortAccess.{PortAccess}
-use Rattle.vme_trace.specs.Changes.{slot_code, change_if}
+use Rattle.vme_trace.specs.declared.dump.edge.TheConstants.{BEGIN, FIRST, SECOND, RELEASE, END, STROBES_RISE, GRANT, BUSY_FALLS, REQUEST_RISES, GRANT_ENDS}
+use Rattle.vme_trace.specs.declared.dump.variable.Variable.TheVariants.{CurrentLine, RequestLine, GrantLines, BusyLine, Selected}
+use Rattle.vme_trace.specs.Variables.{code_of}
+use Rattle.vme_trace.specs.Changes.{change_if}
 use Rattle.vme_trace.specs.Handshakes.{first_handshake, second_handshake}
 use Rattle.vme_trace.specs.Ports.{port_access, port_changes}
 
@@ -26,12 +29,12 @@ releases activity = false
 
 -- the edge at which the bus is released: after the cycle that no board answered, if there was one
 abbrev pub release_edge : Activity → ℕ
-release_edge (Releases (Some signals)) = 12
-release_edge activity = 0
+release_edge (Releases (Some signals)) = RELEASE
+release_edge activity = BEGIN
 
 -- the edge at which a grant begins; IEEE 1014-1987, 3.3 (arbiter and requesters)
 abbrev pub grant_edge : Activity → ℕ
-grant_edge activity = release_edge activity + 1
+grant_edge activity = release_edge activity + GRANT
 
 -- whether the bus is granted to a board's slot
 abbrev pub is_granted : Option Grant → ℕ → Bool
@@ -69,37 +72,37 @@ has_ended o = ends_with (first_handshake o.activity o.reply) || ends_with (secon
 
 -- the edge at which AS* rises, if it does
 abbrev pub end_edge : Observation → ℕ
-end_edge o = if is_some (second_handshake o.activity o.reply) then 16 else 7
+end_edge o = if is_some (second_handshake o.activity o.reply) then SECOND + STROBES_RISE else FIRST + STROBES_RISE
 
 -- the number of the current line
 unfoldable pub line_changes : Observation → ℕ → List Change
 line_changes o board =
-    change_if (o.board == board) 0 (slot_code board 97) (Number 10 o.line)
-    ++ change_if (o.board == board && o.ended) 19 (slot_code board 97) Released
+    change_if (o.board == board) BEGIN (code_of (CurrentLine board)) (Number 10 o.line)
+    ++ change_if (o.board == board && o.ended) END (code_of (CurrentLine board)) Released
 
 -- the bus request line that the slot drives
 unfoldable pub request_changes : Observation → ℕ → List Change
 request_changes o board =
-    change_if (o.board == board && requests o.activity) 0 (slot_code board 98) Low
-    ++ change_if (is_granted o.grant board) (grant_edge o.activity + 2) (slot_code board 98) High
+    change_if (o.board == board && requests o.activity) BEGIN (code_of (RequestLine board)) Low
+    ++ change_if (is_granted o.grant board) (grant_edge o.activity + REQUEST_RISES) (code_of (RequestLine board)) High
 
 -- the slot's BG3IN* to BG0IN*, on the daisy chain
 unfoldable pub chain_changes : Observation → ℕ → List Change
 chain_changes o board =
-    change_if (passes_grant o.grant board) (grant_edge o.activity) (slot_code board 99) (Number 4 (grant_lines o.grant))
-    ++ change_if (passes_grant o.grant board) (grant_edge o.activity + 3) (slot_code board 99) (Number 4 15)
+    change_if (passes_grant o.grant board) (grant_edge o.activity) (code_of (GrantLines board)) (Number 4 (grant_lines o.grant))
+    ++ change_if (passes_grant o.grant board) (grant_edge o.activity + GRANT_ENDS) (code_of (GrantLines board)) (Number 4 15)
 
 -- BBSY*, as the slot drives it
 unfoldable pub busy_changes : Observation → ℕ → List Change
 busy_changes o board =
-    change_if (o.board == board && releases o.activity) (release_edge o.activity) (slot_code board 100) High
-    ++ change_if (is_granted o.grant board) (grant_edge o.activity + 1) (slot_code board 100) Low
+    change_if (o.board == board && releases o.activity) (release_edge o.activity) (code_of (BusyLine board)) High
+    ++ change_if (is_granted o.grant board) (grant_edge o.activity + BUSY_FALLS) (code_of (BusyLine board)) Low
 
 -- whether the board of the slot has selected itself
 unfoldable pub select_changes : Observation → ℕ → List Change
 select_changes o board =
-    change_if (selects o.activity board && opens o.activity) 1 (slot_code board 101) High
-    ++ change_if (selects o.activity board && has_ended o) (end_edge o) (slot_code board 101) Low
+    change_if (selects o.activity board && opens o.activity) FIRST (code_of (Selected board)) High
+    ++ change_if (selects o.activity board && has_ended o) (end_edge o) (code_of (Selected board)) Low
 
 -- an access by the local port, if there is one
 abbrev pub access_changes : ℕ → Option PortAccess → List Change

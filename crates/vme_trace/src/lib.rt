@@ -11,7 +11,9 @@ mod observation;
 mod trace;
 mod turns;
 
-pub use dump::{Change, Code, Value, print_end, print_event, print_header, push_event};
+pub use dump::{
+    Change, Code, Value, Variable, edge, print_end, print_event, print_header, push_event,
+};
 pub use engine::trace_engine;
 pub use observation::{Activity, Grant, Observation, TransferredDatum, observe_turn};
 pub use trace::write_trace;

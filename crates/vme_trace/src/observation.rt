@@ -6,10 +6,9 @@ ghost use Rattle.vme_trace.specs.Observations.{observed};
 mod activity;
 mod grant;
 
+use activity::activity_of;
 pub use activity::{Activity, TransferredDatum};
 pub use grant::Grant;
-
-use activity::activity_of;
 use grant::grant_of;
 use vme_core::EventReply;
 use vme_script::Config;

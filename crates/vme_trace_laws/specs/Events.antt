@@ -5,10 +5,14 @@ use Rattle.vme_trace.specs.declared.dump.change.Code.{Code}
 use Rattle.vme_trace.specs.declared.dump.change.Value.{Value}
 use Rattle.vme_trace.specs.declared.dump.change.Value.TheVariants.{High}
 use Rattle.vme_trace.specs.declared.dump.handshake.Handshake.{Handshake}
-use Rattle.vme_trace.specs.Changes.{slot_code}
+use Rattle.vme_trace.specs.declared.dump.edge.TheConstants.{ADDRESS_RELEASED}
+use Rattle.vme_trace.specs.declared.dump.variable.Variable.{Variable}
+use Rattle.vme_trace.specs.declared.dump.variable.Variable.TheVariants.{GrantLines, Selected, PortSelect, PortDone, PortError}
+use Rattle.vme_trace.specs.Variables.{code_of}
 use Rattle.vme_trace.specs.Handshakes.{edge_of, first_handshake, second_handshake}
 use Rattle.vme_trace.specs.Events.{event_changes}
-use Rattle.vme_trace_laws.specs.Shown.{value_at, address_strobe, address_strobe_before, HasStrobe}
+use Rattle.vme_trace_laws.specs.Shown.{address_strobe, address_strobe_before, HasStrobe}
+use Rattle.vme_trace.specs.Shown.{value_at}
 
 -- a handshake is one of an event
 abbrev pub IsHandshakeOf : Observation → Handshake → Type 0
@@ -17,7 +21,7 @@ IsHandshakeOf o t =
 
 -- an edge is one of a handshake
 abbrev pub IsWithin : Handshake → ℕ → Type 0
-IsWithin t k = (edge_of t 0 ≤ k) × (k ≤ edge_of t 9)
+IsWithin t k = (edge_of t 0 ≤ k) × (k ≤ edge_of t ADDRESS_RELEASED)
 
 -- each handshake of an event has a data strobe
 abbrev pub HasStrobes : Observation → Type 0
@@ -39,12 +43,12 @@ event_strobe boards n o =
 
 -- BG3IN* to BG0IN* of a board's slot, as a number
 abbrev pub grant_lines_in : ℕ → Code
-grant_lines_in board = slot_code board 99
+grant_lines_in board = code_of (GrantLines board)
 
 -- whether the board of a slot is selected
 abbrev pub selected_line : ℕ → Code
-selected_line board = slot_code board 101
+selected_line board = code_of (Selected board)
 
--- a letter is that of a variable that an access by a local port asserts: select, done or error
-abbrev pub IsPortLine : ℕ → Type 0
-IsPortLine letter = (letter ≡ 102) ⊎ ((letter ≡ 106) ⊎ (letter ≡ 107))
+-- a variable is one that an access by the local port of a board asserts: select, done or error
+abbrev pub IsPortLine : ℕ → Variable → Type 0
+IsPortLine board variable = (variable ≡ PortSelect board) ⊎ ((variable ≡ PortDone board) ⊎ (variable ≡ PortError board))

@@ -1,84 +1,61 @@
--- What a viewer shows of an event: the value of each variable of the bus at each edge.
-use Rattle.std.specs.Prelude.{ℕ, zero, suc, ◌≡◌, ◌⊎◌, Bool, false, ◌==◌, ◌&&◌, if◌then◌else◌, List, [], ◌∷◌, Option, Some, None, is_none}
+-- The lines of a cycle, and what a viewer shows of a handshake.
+use Rattle.std.specs.Prelude.{ℕ, ◌≡◌, ◌⊎◌, false, if◌then◌else◌}
 use Rattle.vme_trace.specs.declared.dump.change.Code.{Code}
-use Rattle.vme_trace.specs.declared.dump.change.Change.{Change}
 use Rattle.vme_trace.specs.declared.dump.change.Value.{Value}
 use Rattle.vme_trace.specs.declared.dump.change.Value.TheVariants.{Low, High}
 use Rattle.vme_trace.specs.declared.dump.handshake.Handshake.{Handshake}
-use Rattle.vme_trace.specs.Changes.{bus_code}
+use Rattle.vme_trace.specs.declared.dump.variable.Variable.TheVariants.{AddressStrobe, AddressModifier, AddressLines, FirstAddressLine, LongWord, WriteLine, FirstStrobe, SecondStrobe, DataLines, UpperDataLines, Acknowledge, BusError}
+use Rattle.vme_trace.specs.Variables.{code_of}
 use Rattle.vme_trace.specs.Bus.{handshake_changes}
-
--- whether a second letter of a code is a variable's
-abbrev pub is_letter : Option ℕ → Option ℕ → Bool
-is_letter None found = is_none found
-is_letter (Some letter) None = false
-is_letter (Some letter) (Some found) = found == letter
-
--- whether a code is that of a variable
-abbrev pub is_code : Code → Code → Bool
-is_code variable code = is_letter variable.second code.second && code.first == variable.first
-
--- whether a change is one of this variable at this edge
-abbrev pub is_at : Code → ℕ → Change → Bool
-is_at variable k c = is_code variable c.code && c.edge == k
-
--- the value of a variable after the changes of an edge, by its value before them
-unfoldable pub value_after : Code → ℕ → List Change → Value → Value
-value_after variable k [] before = before
-value_after variable k (c ∷ changes) before = value_after variable k changes (if is_at variable k c then c.value else before)
-
--- the value of a variable at an edge of an event, by its value before the event
-unfoldable pub value_at : Code → List Change → Value → ℕ → Value
-value_at variable changes before zero = value_after variable 0 changes before
-value_at variable changes before (suc k) = value_after variable (suc k) changes (value_at variable changes before k)
+use Rattle.vme_trace.specs.Shown.{value_at}
 
 -- AS*
 abbrev pub address_strobe : Code
-address_strobe = bus_code 73
+address_strobe = code_of AddressStrobe
 
 -- AM5 to AM0
 abbrev pub address_modifier : Code
-address_modifier = bus_code 74
+address_modifier = code_of AddressModifier
 
 -- A31 to A02
 abbrev pub address_lines : Code
-address_lines = bus_code 75
+address_lines = code_of AddressLines
 
 -- A01
 abbrev pub first_address_line : Code
-first_address_line = bus_code 76
+first_address_line = code_of FirstAddressLine
 
 -- LWORD*
 abbrev pub long_word : Code
-long_word = bus_code 77
+long_word = code_of LongWord
 
 -- WRITE*
 abbrev pub write_line : Code
-write_line = bus_code 78
+write_line = code_of WriteLine
 
 -- DS1*
 abbrev pub first_strobe : Code
-first_strobe = bus_code 79
+first_strobe = code_of FirstStrobe
 
 -- DS0*
 abbrev pub second_strobe : Code
-second_strobe = bus_code 80
+second_strobe = code_of SecondStrobe
 
 -- D31 to D00
 abbrev pub data_lines : Code
-data_lines = bus_code 81
+data_lines = code_of DataLines
 
 -- D63 to D32
 abbrev pub upper_data_lines : Code
-upper_data_lines = bus_code 82
+upper_data_lines = code_of UpperDataLines
 
 -- DTACK*
 abbrev pub acknowledge : Code
-acknowledge = bus_code 83
+acknowledge = code_of Acknowledge
 
 -- BERR*
 abbrev pub bus_error : Code
-bus_error = bus_code 84
+bus_error = code_of BusError
 
 -- a line is a data strobe
 abbrev pub IsStrobe : Code → Type 0

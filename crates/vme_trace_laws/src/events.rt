@@ -4,12 +4,15 @@ ghost use Rattle.vme_trace.specs.declared.dump.handshake.Handshake.{Handshake};
 ghost use Rattle.vme_trace.specs.declared.dump.change.Code.{Code};
 ghost use Rattle.vme_trace.specs.declared.dump.change.Value.{Value};
 ghost use Rattle.vme_trace.specs.declared.dump.change.Value.TheVariants.{Low, High, Released, Number, Lanes};
-ghost use Rattle.vme_trace.specs.Changes.{slot_code};
+ghost use Rattle.vme_trace.specs.declared.dump.edge.TheConstants.{END, STROBES_RISE};
+ghost use Rattle.vme_trace.specs.declared.dump.variable.Variable.{Variable};
+ghost use Rattle.vme_trace.specs.Variables.{code_of};
 ghost use Rattle.vme_trace.specs.Handshakes.{edge_of, second_handshake};
 ghost use Rattle.vme_trace.specs.Bus.{lower_lanes};
 ghost use Rattle.vme_trace.specs.Slots.{selects, has_ended};
 ghost use Rattle.vme_trace.specs.Events.{event_changes};
-ghost use Rattle.vme_trace_laws.specs.Shown.{value_at, address_strobe, data_lines, upper_data_lines, first_strobe, second_strobe, acknowledge, bus_error, IsStrobe, IsAnswer};
+ghost use Rattle.vme_trace_laws.specs.Shown.{address_strobe, data_lines, upper_data_lines, first_strobe, second_strobe, acknowledge, bus_error, IsStrobe, IsAnswer};
+ghost use Rattle.vme_trace.specs.Shown.{value_at};
 ghost use Rattle.vme_trace_laws.specs.Events.{IsHandshakeOf, IsWithin, HasStrobes, event_line, event_strobe, grant_lines_in, selected_line, IsPortLine};
 
 /// States the rules of strobes and answers (IEEE 1014-1987, 2.4) of a whole event with no handshake,
@@ -20,7 +23,7 @@ pub fn events_keep_the_rules()
     ensures strobe { (boards n : ℕ) (o : Observation) (line : Code) (k : ℕ) → IsStrobe line →
         event_line boards n o line k ≡ Low → event_strobe boards n o k ≡ Low }
     ensures between { (boards n : ℕ) (o : Observation) (t : Handshake) (k : ℕ) →
-        second_handshake o.activity o.reply ≡ Some t → 1 ≤ k → k < edge_of t 6 →
+        second_handshake o.activity o.reply ≡ Some t → 1 ≤ k → k < edge_of t STROBES_RISE →
         event_strobe boards n o k ≡ Low }
     ensures falls { (boards n : ℕ) (o : Observation) (line : Code) (k : ℕ) →
         IsAnswer line → HasStrobes o →
@@ -51,21 +54,21 @@ pub fn events_show_their_data()
 /// AS* is high and its board not selected if a transfer ends with it (IEEE 1014-1987, 2.4 and 3.3).
 pub fn events_end_at_rest()
     ensures strobes { (boards n : ℕ) (o : Observation) (line : Code) → IsStrobe line →
-        event_line boards n o line 19 ≡ High }
+        event_line boards n o line END ≡ High }
     ensures answers { (boards n : ℕ) (o : Observation) (line : Code) → IsAnswer line →
-        event_line boards n o line 19 ≡ High }
+        event_line boards n o line END ≡ High }
     ensures data { (boards n : ℕ) (o : Observation) →
-        value_at data_lines (event_changes boards n o) Released 19 ≡ Released }
+        value_at data_lines (event_changes boards n o) Released END ≡ Released }
     ensures upper { (boards n : ℕ) (o : Observation) →
-        value_at upper_data_lines (event_changes boards n o) Released 19 ≡ Released }
+        value_at upper_data_lines (event_changes boards n o) Released END ≡ Released }
     ensures grants { (boards n : ℕ) (o : Observation) (board : ℕ) → board < boards →
-        value_at (grant_lines_in board) (event_changes boards n o) (Number 4 15) 19 ≡ Number 4 15 }
-    ensures ports { (boards n : ℕ) (o : Observation) (board letter : ℕ) →
-        board < boards → IsPortLine letter →
-        value_at (slot_code board letter) (event_changes boards n o) Low 19 ≡ Low }
+        value_at (grant_lines_in board) (event_changes boards n o) (Number 4 15) END ≡ Number 4 15 }
+    ensures ports { (boards n : ℕ) (o : Observation) (board : ℕ) (variable : Variable) →
+        board < boards → IsPortLine board variable →
+        value_at (code_of variable) (event_changes boards n o) Low END ≡ Low }
     ensures address_strobe { (boards n : ℕ) (o : Observation) (before : Value) →
-        has_ended o ≡ true → value_at address_strobe (event_changes boards n o) before 19 ≡ High }
+        has_ended o ≡ true → value_at address_strobe (event_changes boards n o) before END ≡ High }
     ensures selected { (boards n : ℕ) (o : Observation) (board : ℕ) (before : Value) →
         board < boards → selects o.activity board ≡ true → has_ended o ≡ true →
-        value_at (selected_line board) (event_changes boards n o) before 19 ≡ Low }
+        value_at (selected_line board) (event_changes boards n o) before END ≡ Low }
 {}

@@ -5,7 +5,8 @@ ghost use Rattle.vme_trace.specs.declared.dump.change.Value.{Value};
 ghost use Rattle.vme_trace.specs.declared.dump.change.Value.TheVariants.{Low, Number, Lanes};
 ghost use Rattle.vme_trace.specs.Changes.{level_of};
 ghost use Rattle.vme_trace.specs.Bus.{is_wide, lower_lanes, handshake_changes};
-ghost use Rattle.vme_trace_laws.specs.Shown.{value_at, address_strobe_at, line_at, address_modifier, address_lines, first_address_line, long_word, write_line, first_strobe, second_strobe, data_lines, acknowledge, bus_error, IsStrobe, IsAnswer, HasStrobe};
+ghost use Rattle.vme_trace_laws.specs.Shown.{address_strobe_at, line_at, address_modifier, address_lines, first_address_line, long_word, write_line, first_strobe, second_strobe, data_lines, acknowledge, bus_error, IsStrobe, IsAnswer, HasStrobe};
+ghost use Rattle.vme_trace.specs.Shown.{value_at};
 
 /// States that a data strobe is low only while AS* is low (IEEE 1014-1987, 2.4).
 pub fn strobes_are_low_under_the_address_strobe()

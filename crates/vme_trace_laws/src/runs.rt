@@ -12,12 +12,15 @@ ghost use Rattle.vme_trace.specs.Observations.{observations};
 ghost use Rattle.vme_trace.specs.declared.dump.change.Code.{Code};
 ghost use Rattle.vme_trace.specs.declared.dump.change.Value.{Value};
 ghost use Rattle.vme_trace.specs.declared.dump.change.Value.TheVariants.{Low, High, Released, Number};
-ghost use Rattle.vme_trace.specs.Changes.{slot_code, level_of};
+ghost use Rattle.vme_trace.specs.Changes.{level_of};
+ghost use Rattle.vme_trace.specs.declared.dump.variable.Variable.{Variable};
+ghost use Rattle.vme_trace.specs.Variables.{code_of};
 ghost use Rattle.vme_trace_laws.specs.Shown.{data_lines, upper_data_lines, IsStrobe, IsAnswer};
 ghost use Rattle.vme_trace_laws.specs.Events.{grant_lines_in, IsPortLine};
 ghost use Rattle.vme_trace_laws.specs.Steps.{IsRunShown};
 ghost use Rattle.vme_trace_laws.specs.Counts.{is_shown_on, all_steps};
-ghost use Rattle.vme_trace_laws.specs.Values.{event_number, holder_shown, holder_line, bus_busy_line, busy_line, value_after_run, value_in_run};
+ghost use Rattle.vme_trace_laws.specs.Values.{event_number, holder_shown, holder_line, bus_busy_line, busy_line};
+ghost use Rattle.vme_trace.specs.Shown.{value_after_run, value_in_run};
 
 use crate::events::events_end_at_rest;
 
@@ -78,8 +81,8 @@ pub fn runs_end_at_rest()
     ensures grants { (config : Configuration) (slots : List ℕ) (board : ℕ) →
         board < length config.boards → value_after_run (grant_lines_in board)
         (length config.boards) (observations config slots) (Number 4 15) ≡ Number 4 15 }
-    ensures ports { (config : Configuration) (slots : List ℕ) (board letter : ℕ) →
-        board < length config.boards → IsPortLine letter → value_after_run (slot_code board letter)
+    ensures ports { (config : Configuration) (slots : List ℕ) (board : ℕ) (variable : Variable) →
+        board < length config.boards → IsPortLine board variable → value_after_run (code_of variable)
         (length config.boards) (observations config slots) Low ≡ Low }
 {
     events_end_at_rest();

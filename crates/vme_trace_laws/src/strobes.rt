@@ -11,7 +11,8 @@ ghost use Rattle.vme_trace.specs.Changes.{level_of};
 ghost use Rattle.vme_trace.specs.Handshakes.{first_handshake};
 ghost use Rattle.vme_trace_laws.specs.Shown.{address_strobe, address_strobe_before, IsStrobe};
 ghost use Rattle.vme_trace_laws.specs.Transfers.{open_transfer, transfer_board};
-ghost use Rattle.vme_trace_laws.specs.Values.{busy_line, value_after_run, value_in_run};
+ghost use Rattle.vme_trace_laws.specs.Values.{busy_line};
+ghost use Rattle.vme_trace.specs.Shown.{value_after_run, value_in_run};
 
 use crate::events::{events_end_at_rest, events_keep_the_rules};
 

@@ -1,23 +1,15 @@
 //! The accesses of the local ports.
-ghost use Rattle.std.specs.Prelude.{◌≡◌, ◌++◌, flat_map, IfOk, OnOk};
-ghost use Rattle.vme_page.specs.Accesses.{is_high, is_raised, number_in, access_by, driven_text, bytes_text, data_text, result_text, frame_text, direction_text, offset_text, access_text, port_text};
+ghost use Rattle.std.specs.Prelude.{◌≡◌, IfOk};
+ghost use Rattle.vme_page.specs.Accesses.{is_high, is_raised, number_in, access_by};
 
-use crate::diagram::point::{Point, first_value, number_of, slot};
+use crate::diagram::layout::LocalPort;
+use crate::diagram::point::{Point, first_value, number_of};
 use crate::diagram::row::print_number;
 use crate::diagram::shape::{begin_text, end_text, print_rectangle, print_words};
 use crate::diagram::window::Window;
 use std::alloc::AllocError;
 use vme_grammar::print_hex;
 use vme_trace::{Change, Value};
-
-/// The letter of the write line of a local port.
-const WRITE: u8 = b'g';
-/// The letter of its offset.
-const OFFSET: u8 = b'h';
-/// The letter of its data.
-const BYTES: u8 = b'i';
-/// The letter of its bus error.
-const ERROR: u8 = b'k';
 
 /// The middle of an access.
 const MIDDLE: u16 = 53;
@@ -36,21 +28,17 @@ pub(crate) struct Access {
 }
 
 /// Appends the access of a slot's local port, if the cell shows one.
-#[tactic(auto, unfolding(crate::specs::Accesses::port_text))]
 pub(crate) fn print_port(
     text: &mut Vec<u8>,
     points: &mut Vec<Point>,
     window: Window,
     changes: &[Change],
-    letter: u8,
+    port: LocalPort,
     y: u16,
-) -> Result<(), AllocError>
-    ensures { OnOk result
-        (text.new.items ≡ text.old.items ++ port_text window changes.now letter y) }
-{
-    match first_value(points, window, slot(letter, WRITE), changes)? {
+) -> Result<(), AllocError> {
+    match first_value(points, window, port.write, changes)? {
         Some(write) => {
-            let access = access_by(points, window, changes, letter, write)?;
+            let access = access_by(points, window, changes, port, write)?;
             print_access(text, access, y)
         }
         None => Ok(()),
@@ -62,14 +50,14 @@ fn access_by(
     points: &mut Vec<Point>,
     window: Window,
     changes: &[Change],
-    letter: u8,
+    port: LocalPort,
     write: Value,
 ) -> Result<Access, AllocError>
-    ensures { IfOk result (λ access. access ≡ access_by window changes.now letter write) }
+    ensures { IfOk result (λ access. access ≡ access_by window changes.now port write) }
 {
-    let offset = first_value(points, Window::Whole, slot(letter, OFFSET), changes)?;
-    let error = first_value(points, window, slot(letter, ERROR), changes)?;
-    let bytes = first_value(points, window, slot(letter, BYTES), changes)?;
+    let offset = first_value(points, Window::Whole, port.offset, changes)?;
+    let error = first_value(points, window, port.error, changes)?;
+    let bytes = first_value(points, window, port.bytes, changes)?;
     Ok(Access {
         write: is_high(write),
         offset: number_in(offset),
@@ -106,19 +94,14 @@ fn number_in(value: Option<Value>) -> u32
 }
 
 /// Appends an access.
-#[tactic(auto, unfolding(crate::specs::Accesses::access_text))]
-fn print_access(text: &mut Vec<u8>, access: Access, y: u16) -> Result<(), AllocError>
-    ensures { OnOk result (text.new.items ≡ text.old.items ++ access_text access y) }
-{
+fn print_access(text: &mut Vec<u8>, access: Access, y: u16) -> Result<(), AllocError> {
     print_frame(text, access.error, y)?;
     print_offset(text, access, y)?;
     print_result(text, access, y)
 }
 
 /// Appends the frame of an access.
-fn print_frame(text: &mut Vec<u8>, error: bool, y: u16) -> Result<(), AllocError>
-    ensures { OnOk result (text.new.items ≡ text.old.items ++ frame_text error y) }
-{
+fn print_frame(text: &mut Vec<u8>, error: bool, y: u16) -> Result<(), AllocError> {
     if error {
         print_rectangle(text, b"v x", 10, 96, y, 30)
     } else {
@@ -127,10 +110,7 @@ fn print_frame(text: &mut Vec<u8>, error: bool, y: u16) -> Result<(), AllocError
 }
 
 /// Appends the upper line of an access: whether it reads or writes, and the offset.
-#[tactic(auto, unfolding(crate::specs::Accesses::offset_text))]
-fn print_offset(text: &mut Vec<u8>, access: Access, y: u16) -> Result<(), AllocError>
-    ensures { OnOk result (text.new.items ≡ text.old.items ++ offset_text access y) }
-{
+fn print_offset(text: &mut Vec<u8>, access: Access, y: u16) -> Result<(), AllocError> {
     begin_text(text, b"t", MIDDLE, u32::from(y) + 12)?;
     print_direction(text, access.write)?;
     print_number(text, access.offset)?;
@@ -138,9 +118,7 @@ fn print_offset(text: &mut Vec<u8>, access: Access, y: u16) -> Result<(), AllocE
 }
 
 /// Appends whether an access reads or writes.
-fn print_direction(text: &mut Vec<u8>, write: bool) -> Result<(), AllocError>
-    ensures { OnOk result (text.new.items ≡ text.old.items ++ direction_text write) }
-{
+fn print_direction(text: &mut Vec<u8>, write: bool) -> Result<(), AllocError> {
     if write {
         text.extend_from_slice(b"w ")
     } else {
@@ -149,9 +127,7 @@ fn print_direction(text: &mut Vec<u8>, write: bool) -> Result<(), AllocError>
 }
 
 /// Appends the lower line of an access: its bytes, or that it is an error.
-fn print_result(text: &mut Vec<u8>, access: Access, y: u16) -> Result<(), AllocError>
-    ensures { OnOk result (text.new.items ≡ text.old.items ++ result_text access y) }
-{
+fn print_result(text: &mut Vec<u8>, access: Access, y: u16) -> Result<(), AllocError> {
     if access.error {
         return print_words(text, b"b", MIDDLE, u32::from(y) + 25, b"error");
     }
@@ -162,19 +138,14 @@ fn print_result(text: &mut Vec<u8>, access: Access, y: u16) -> Result<(), AllocE
 }
 
 /// Appends the bytes of an access.
-#[tactic(auto, unfolding(crate::specs::Accesses::bytes_text))]
-fn print_bytes(text: &mut Vec<u8>, lanes: &[Option<u8>], y: u16) -> Result<(), AllocError>
-    ensures { OnOk result (text.new.items ≡ text.old.items ++ bytes_text lanes.now y) }
-{
+fn print_bytes(text: &mut Vec<u8>, lanes: &[Option<u8>], y: u16) -> Result<(), AllocError> {
     begin_text(text, b"t", MIDDLE, u32::from(y) + 25)?;
     print_driven_lanes(text, lanes)?;
     end_text(text)
 }
 
 /// Appends the bytes of the lanes that something drives.
-fn print_driven_lanes(text: &mut Vec<u8>, lanes: &[Option<u8>]) -> Result<(), AllocError>
-    ensures { OnOk result (text.new.items ≡ text.old.items ++ flat_map driven_text lanes.now) }
-{
+fn print_driven_lanes(text: &mut Vec<u8>, lanes: &[Option<u8>]) -> Result<(), AllocError> {
     for lane in lanes {
         print_driven(text, *lane)?;
     }
@@ -182,9 +153,7 @@ fn print_driven_lanes(text: &mut Vec<u8>, lanes: &[Option<u8>]) -> Result<(), Al
 }
 
 /// Appends the byte of a lane, if something drives it.
-fn print_driven(text: &mut Vec<u8>, lane: Option<u8>) -> Result<(), AllocError>
-    ensures { OnOk result (text.new.items ≡ text.old.items ++ driven_text lane) }
-{
+fn print_driven(text: &mut Vec<u8>, lane: Option<u8>) -> Result<(), AllocError> {
     match lane {
         Some(byte) => print_hex(text, &[byte]),
         None => Ok(()),

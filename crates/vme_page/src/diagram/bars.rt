@@ -1,19 +1,19 @@
 //! Which slots request the bus, and which use their local ports.
-ghost use Rattle.std.specs.Prelude.{◌≡◌, ◌+◌, ◌<◌, ◌≤◌, ◌++◌, flat_map, length, map, IfOk, OnOk};
-ghost use Rattle.std.specs.List.{list_any, range_with_len};
+ghost use Rattle.std.specs.Prelude.{◌≡◌, ◌+◌, ◌<◌, ◌≤◌, ◌++◌, [], length, map, IfOk, OnOk};
+ghost use Rattle.std.specs.List.{list_any};
 ghost use Rattle.vme_line_task.specs.Scripts.{slot_at, level_at, lines_at};
-ghost use Rattle.vme_page.specs.Layouts.{is_local, is_kind, bar_of, port_of};
+ghost use Rattle.vme_page.specs.Layouts.{is_local, is_kind, bar_of, bars_after_run, port_of, ports_of};
 
 use crate::diagram::layout::{Bar, LocalPort};
 use std::alloc::{AllocError, Global};
 use vme_grammar::Line;
 use vme_script::{Config, Script};
-use vme_trace::Value;
+use vme_trace::{Value, Variable};
 
 /// Returns the bars of the slots whose scripts have a line over the bus.
+#[tactic(auto, unfolding(crate::specs::Layouts::bars_after_run))]
 pub(crate) fn bars(alloc: Global, config: &Config) -> Result<Vec<Bar>, AllocError>
-    ensures bars { IfOk result (λ bars. bars.items
-        ≡ flat_map (bar_of config.now) (range_with_len 0 (length config.now.boards))) }
+    ensures bars { IfOk result (λ bars. bars.items ≡ bars_after_run config.now []) }
     ensures few { IfOk result (λ bars. length bars.items ≤ 26) }
 {
     let mut bars = Vec::new(alloc);
@@ -26,26 +26,28 @@ pub(crate) fn bars(alloc: Global, config: &Config) -> Result<Vec<Bar>, AllocErro
 /// Appends the bar of a slot whose script has a line over the bus.
 fn push_bar(bars: &mut Vec<Bar>, config: &Config, board: usize) -> Result<(), AllocError>
     requires { board < length config.now.boards }
-    ensures bars { OnOk result (bars.new.items ≡ bars.old.items ++ bar_of config.now board) }
+    ensures bars { OnOk result (bars.new.items ≡ bars.old.items ++ bar_of config.now [] board) }
     ensures few { OnOk result (length bars.new.items ≤ length bars.old.items + 1) }
 {
+    prove!(board < config.boards());
     if !has_line_at(config, board, false) {
         return Ok(());
     }
     bars.push(Bar {
-        letter: letter_of(config, board),
         slot: slot_of(config, board),
         level: level_of(config, board),
+        request_code: Variable::RequestLine(board).code(),
         request: Value::High,
+        busy_code: Variable::BusyLine(board).code(),
         busy: Value::High,
     })?;
     Ok(())
 }
 
 /// Returns the local ports of the slots whose scripts have a line of it.
+#[tactic(auto, unfolding(crate::specs::Layouts::ports_of))]
 pub(crate) fn ports(alloc: Global, config: &Config) -> Result<Vec<LocalPort>, AllocError>
-    ensures ports { IfOk result (λ ports. ports.items
-        ≡ flat_map (port_of config.now) (range_with_len 0 (length config.now.boards))) }
+    ensures ports { IfOk result (λ ports. ports.items ≡ ports_of config.now) }
     ensures few { IfOk result (λ ports. length ports.items ≤ 26) }
 {
     let mut ports = Vec::new(alloc);
@@ -61,23 +63,18 @@ fn push_port(ports: &mut Vec<LocalPort>, config: &Config, board: usize) -> Resul
     ensures ports { OnOk result (ports.new.items ≡ ports.old.items ++ port_of config.now board) }
     ensures few { OnOk result (length ports.new.items ≤ length ports.old.items + 1) }
 {
+    prove!(board < config.boards());
     if !has_line_at(config, board, true) {
         return Ok(());
     }
     ports.push(LocalPort {
-        letter: letter_of(config, board),
         slot: slot_of(config, board),
+        write: Variable::PortWrite(board).code(),
+        offset: Variable::PortOffset(board).code(),
+        bytes: Variable::PortData(board).code(),
+        error: Variable::PortError(board).code(),
     })?;
     Ok(())
-}
-
-/// Returns the first letter of the codes of a board's variables.
-fn letter_of(config: &Config, board: usize) -> u8
-    requires { board < length config.now.boards }
-    ensures { result ≡ 97 + board }
-{
-    prove!(board < config.boards());
-    b'a' + board as u8
 }
 
 /// Returns the slot of a board.

@@ -1,30 +1,18 @@
 //! Cells: the heading, the bars, the lines of the bus, and the local ports.
-ghost use Rattle.std.specs.Prelude.{◌≡◌, ◌<◌, ◌≤◌, ◌++◌, length, IfOk, OnOk};
-ghost use Rattle.vme_page.specs.Cells.{number_or, modifier_of, bus_row, bus_rows, bus_text, bar_rows, bar_text, bar_at, bars_text, port_at, ports_text, place_words, side_words, cell_begin, lines_text, cell_text};
+ghost use Rattle.std.specs.Prelude.{◌≡◌, ◌<◌, ◌≤◌, length, IfOk};
+ghost use Rattle.vme_trace.specs.Variables.{board_of, code_of};
+ghost use Rattle.vme_page.specs.Cells.{number_or, modifier_of, bus_row, bus_rows, bar_rows};
 
 use crate::diagram::access::print_port;
 use crate::diagram::heading::{Heading, print_heading};
-use crate::diagram::layout::{BUSY, Bar, LINE, Layout, REQUEST, bar_top};
-use crate::diagram::levels::{A01, ADDRESS, ADDRESS_STROBE, LWORD, Levels, MODIFIER, WRITE};
-use crate::diagram::point::{Point, WIDTH, bus, first_value, number_of, slot};
+use crate::diagram::layout::{Bar, LINE, Layout, bar_top};
+use crate::diagram::levels::Levels;
+use crate::diagram::point::{Point, WIDTH, first_value, number_of};
 use crate::diagram::row::{Row, Style, print_rows};
 use crate::diagram::shape::{print_dots, print_numbered};
 use crate::diagram::window::Window;
 use std::alloc::AllocError;
-use vme_trace::{Change, Observation, Value};
-
-/// DS1*.
-const DS1: u8 = b'O';
-/// DS0*.
-const DS0: u8 = b'P';
-/// D31 to D00.
-const DATA: u8 = b'Q';
-/// The upper half of eight-byte data.
-const UPPER_DATA: u8 = b'R';
-/// DTACK*.
-const DTACK: u8 = b'S';
-/// BERR*.
-const BERR: u8 = b'T';
+use vme_trace::{Change, Observation, Value, Variable};
 
 /// The width of the names before the cells.
 const NAMES_WIDTH: u32 = 92;
@@ -43,7 +31,6 @@ pub(crate) struct Cell {
 }
 
 /// Appends a cell of an event, whose changes these are.
-#[tactic(auto, unfolding(crate::specs::Cells::cell_text))]
 pub(crate) fn print_cell(
     text: &mut Vec<u8>,
     points: &mut Vec<Point>,
@@ -52,10 +39,7 @@ pub(crate) fn print_cell(
     heading: Heading,
     event: &Observation,
     changes: &[Change],
-) -> Result<(), AllocError>
-    ensures { OnOk result (text.new.items
-        ≡ text.old.items ++ cell_text layout.now cell heading event.now changes.now) }
-{
+) -> Result<(), AllocError> {
     begin_cell(text, cell.column, layout.height())?;
     print_heading(text, heading, cell.window, event)?;
     print_lines(text, points, layout, cell, changes)?;
@@ -63,44 +47,21 @@ pub(crate) fn print_cell(
 }
 
 /// Appends the begin of a cell: its place, and its left side.
-#[tactic(auto, unfolding(crate::specs::Cells::cell_begin))]
-fn begin_cell(text: &mut Vec<u8>, column: u8, height: u16) -> Result<(), AllocError>
-    ensures { OnOk result (text.new.items ≡ text.old.items ++ cell_begin column height) }
-{
+fn begin_cell(text: &mut Vec<u8>, column: u8, height: u16) -> Result<(), AllocError> {
     let x = NAMES_WIDTH + CELL_WIDTH * u32::from(column);
-    print_numbered(text, place_words(), x)?;
-    print_numbered(text, side_words(), u32::from(height))?;
+    print_numbered(text, b"<g transform='translate(", x)?;
+    print_numbered(text, b" 0)'><path class='g' d='M0 0V", u32::from(height))?;
     text.extend_from_slice(b"'/>")
 }
 
-/// Returns the words before the place of a cell.
-#[tactic(auto, unfolding(crate::specs::Cells::place_words))]
-fn place_words() -> &'static [u8]
-    ensures { result.now ≡ place_words }
-{
-    b"<g transform='translate("
-}
-
-/// Returns the words after it, up to the length of the cell's left side.
-#[tactic(auto, unfolding(crate::specs::Cells::side_words))]
-fn side_words() -> &'static [u8]
-    ensures { result.now ≡ side_words }
-{
-    b" 0)'><path class='g' d='M0 0V"
-}
-
 /// Appends the lines of a cell.
-#[tactic(auto, unfolding(crate::specs::Cells::lines_text))]
 fn print_lines(
     text: &mut Vec<u8>,
     points: &mut Vec<Point>,
     layout: &Layout,
     cell: Cell,
     changes: &[Change],
-) -> Result<(), AllocError>
-    ensures { OnOk result
-        (text.new.items ≡ text.old.items ++ lines_text layout.now cell changes.now) }
-{
+) -> Result<(), AllocError> {
     let top = layout.bus_top();
     print_bars(text, points, layout, cell.window, changes)?;
     print_bus(text, points, cell, changes, top)?;
@@ -114,10 +75,7 @@ fn print_bars(
     layout: &Layout,
     window: Window,
     changes: &[Change],
-) -> Result<(), AllocError>
-    ensures { OnOk result
-        (text.new.items ≡ text.old.items ++ bars_text layout.now window changes.now) }
-{
+) -> Result<(), AllocError> {
     for i in 0..layout.bar_count() {
         print_bar_at(text, points, layout, window, changes, i)?;
     }
@@ -135,14 +93,11 @@ fn print_bar_at(
 ) -> Result<(), AllocError>
     requires within { i < length layout.now.bars }
     requires few { i ≤ 26 }
-    ensures { OnOk result
-        (text.new.items ≡ text.old.items ++ bar_at layout.now window changes.now i) }
 {
     print_bar(text, points, window, changes, layout.bar(i), bar_top(i))
 }
 
 /// Appends a bar, over dots.
-#[tactic(auto, unfolding(crate::specs::Cells::bar_text))]
 fn print_bar(
     text: &mut Vec<u8>,
     points: &mut Vec<Point>,
@@ -150,9 +105,7 @@ fn print_bar(
     changes: &[Change],
     bar: Bar,
     y: u16,
-) -> Result<(), AllocError>
-    ensures { OnOk result (text.new.items ≡ text.old.items ++ bar_text window changes.now bar y) }
-{
+) -> Result<(), AllocError> {
     print_dots(text, 0, WIDTH, y)?;
     print_rows(text, points, window, changes, &bar_rows(bar, y))
 }
@@ -164,13 +117,13 @@ fn bar_rows(bar: Bar, y: u16) -> [Row; 2]
     ensures { result ≡ bar_rows bar y }
 {
     let request = Row {
-        code: slot(bar.letter, REQUEST),
+        code: bar.request_code,
         value: bar.request,
         style: Style::Request { level: bar.level },
         y,
     };
     let busy = Row {
-        code: slot(bar.letter, BUSY),
+        code: bar.busy_code,
         value: bar.busy,
         style: Style::Busy,
         y,
@@ -185,10 +138,7 @@ fn print_ports(
     window: Window,
     changes: &[Change],
     layout: &Layout,
-) -> Result<(), AllocError>
-    ensures { OnOk result
-        (text.new.items ≡ text.old.items ++ ports_text layout.now window changes.now) }
-{
+) -> Result<(), AllocError> {
     for i in 0..layout.port_count() {
         print_port_at(text, points, window, changes, layout, i)?;
     }
@@ -206,15 +156,12 @@ fn print_port_at(
 ) -> Result<(), AllocError>
     requires within { i < length layout.now.ports }
     requires few { i ≤ 26 }
-    ensures { OnOk result
-        (text.new.items ≡ text.old.items ++ port_at layout.now window changes.now i) }
 {
-    let letter = layout.port(i).letter;
-    print_port(text, points, window, changes, letter, layout.port_top(i))
+    let top = layout.port_top(i);
+    print_port(text, points, window, changes, layout.port(i), top)
 }
 
 /// Appends the lines of the bus.
-#[tactic(auto, unfolding(crate::specs::Cells::bus_text))]
 fn print_bus(
     text: &mut Vec<u8>,
     points: &mut Vec<Point>,
@@ -223,7 +170,6 @@ fn print_bus(
     y: u16,
 ) -> Result<(), AllocError>
     requires { y ≤ 1000 }
-    ensures { OnOk result (text.new.items ≡ text.old.items ++ bus_text cell changes.now y) }
 {
     let modifier = modifier_of(points, cell, changes)?;
     let rows = bus_rows(cell.column == 0, cell.levels, modifier, y);
@@ -238,26 +184,77 @@ fn bus_rows(leads: bool, levels: Levels, modifier: u8, y: u16) -> [Row; 11]
 {
     let address = Style::Address { leads, modifier };
     [
-        bus_row(ADDRESS, levels.address, address, y),
-        bus_row(UPPER_DATA, Value::Released, Style::UpperData, y),
-        bus_row(WRITE, levels.write, Style::Level, y + LINE),
-        bus_row(LWORD, levels.lword, Style::Level, y + 2 * LINE),
-        bus_row(A01, levels.a01, Style::Level, y + 3 * LINE),
-        bus_row(ADDRESS_STROBE, levels.strobe, Style::Level, y + 4 * LINE),
-        bus_row(DS1, Value::High, Style::Level, y + 5 * LINE),
-        bus_row(DS0, Value::High, Style::Level, y + 6 * LINE),
-        bus_row(DATA, Value::Released, Style::Data, y + 7 * LINE),
-        bus_row(DTACK, Value::High, Style::Level, y + 8 * LINE),
-        bus_row(BERR, Value::High, Style::Error, y + 9 * LINE),
+        bus_row(Variable::AddressLines, levels.address_lines, address, y),
+        bus_row(
+            Variable::UpperDataLines,
+            levels.upper_data_lines,
+            Style::UpperData,
+            y,
+        ),
+        bus_row(
+            Variable::WriteLine,
+            levels.write_line,
+            Style::Level,
+            y + LINE,
+        ),
+        bus_row(
+            Variable::LongWord,
+            levels.long_word,
+            Style::Level,
+            y + 2 * LINE,
+        ),
+        bus_row(
+            Variable::FirstAddressLine,
+            levels.first_address_line,
+            Style::Level,
+            y + 3 * LINE,
+        ),
+        bus_row(
+            Variable::AddressStrobe,
+            levels.address_strobe,
+            Style::Level,
+            y + 4 * LINE,
+        ),
+        bus_row(
+            Variable::FirstStrobe,
+            levels.first_strobe,
+            Style::Level,
+            y + 5 * LINE,
+        ),
+        bus_row(
+            Variable::SecondStrobe,
+            levels.second_strobe,
+            Style::Level,
+            y + 6 * LINE,
+        ),
+        bus_row(
+            Variable::DataLines,
+            levels.data_lines,
+            Style::Data,
+            y + 7 * LINE,
+        ),
+        bus_row(
+            Variable::Acknowledge,
+            levels.acknowledge,
+            Style::Level,
+            y + 8 * LINE,
+        ),
+        bus_row(
+            Variable::BusError,
+            levels.bus_error,
+            Style::Error,
+            y + 9 * LINE,
+        ),
     ]
 }
 
 /// Returns a line of the bus.
-fn bus_row(letter: u8, value: Value, style: Style, y: u16) -> Row
-    ensures { result ≡ bus_row letter value style y }
+fn bus_row(variable: Variable, value: Value, style: Style, y: u16) -> Row
+    requires { board_of variable < 26 }
+    ensures { result ≡ bus_row variable value style y }
 {
     Row {
-        code: bus(letter),
+        code: variable.code(),
         value,
         style,
         y,
@@ -269,8 +266,9 @@ fn bus_row(letter: u8, value: Value, style: Style, y: u16) -> Row
 fn modifier_of(points: &mut Vec<Point>, cell: Cell, changes: &[Change]) -> Result<u8, AllocError>
     ensures { IfOk result (λ modifier. modifier ≡ modifier_of cell changes.now) }
 {
-    let first = first_value(points, cell.window, bus(MODIFIER), changes)?;
-    Ok((number_or(cell.levels.modifier, first) % 256) as u8)
+    let code = Variable::AddressModifier.code();
+    let first = first_value(points, cell.window, code, changes)?;
+    Ok((number_or(cell.levels.address_modifier, first) % 256) as u8)
 }
 
 /// Returns the number that a line changes to, or else the one before.

@@ -1,6 +1,4 @@
 //! The heading of a cell.
-ghost use Rattle.std.specs.Prelude.{◌≡◌, ◌++◌, OnOk};
-ghost use Rattle.vme_page.specs.Headings.{is_first, grants, is_granted, in_block, number_before, single_word, datum_word, is_numbered, datum_text, release_word, activity_text, event_name, line_name, names_if, heading_text};
 
 use crate::diagram::shape::{begin_text, end_text, print_numbered};
 use crate::diagram::window::Window;
@@ -25,16 +23,12 @@ pub(crate) struct Heading {
 }
 
 /// Appends the heading of a cell. Only the first cell of an event has its names.
-#[tactic(auto, unfolding(crate::specs::Headings::heading_text))]
 pub(crate) fn print_heading(
     text: &mut Vec<u8>,
     heading: Heading,
     window: Window,
     event: &Observation,
-) -> Result<(), AllocError>
-    ensures { OnOk result
-        (text.new.items ≡ text.old.items ++ heading_text heading window event.now) }
-{
+) -> Result<(), AllocError> {
     print_names(text, is_first(window), heading.number, event)?;
     begin_text(text, b"w", MIDDLE, 40)?;
     print_activity(text, heading, window, &event.activity, &event.reply)?;
@@ -42,9 +36,7 @@ pub(crate) fn print_heading(
 }
 
 /// Returns whether a cell is the first of its event.
-fn is_first(window: Window) -> bool
-    ensures { result ≡ is_first window }
-{
+fn is_first(window: Window) -> bool {
     !matches!(window, Window::Second | Window::Release)
 }
 
@@ -54,9 +46,7 @@ fn print_names(
     first: bool,
     number: u32,
     event: &Observation,
-) -> Result<(), AllocError>
-    ensures { OnOk result (text.new.items ≡ text.old.items ++ names_if first number event.now) }
-{
+) -> Result<(), AllocError> {
     if !first {
         return Ok(());
     }
@@ -65,20 +55,14 @@ fn print_names(
 }
 
 /// Appends the number of an event.
-#[tactic(auto, unfolding(crate::specs::Headings::event_name))]
-fn print_event_name(text: &mut Vec<u8>, number: u32) -> Result<(), AllocError>
-    ensures { OnOk result (text.new.items ≡ text.old.items ++ event_name number) }
-{
+fn print_event_name(text: &mut Vec<u8>, number: u32) -> Result<(), AllocError> {
     begin_text(text, b"e", MIDDLE, 14)?;
     print_number(text, u64::from(number))?;
     end_text(text)
 }
 
 /// Appends the slot and the line whose event it is.
-#[tactic(auto, unfolding(crate::specs::Headings::line_name))]
-fn print_line_name(text: &mut Vec<u8>, slot: u16, line: u16) -> Result<(), AllocError>
-    ensures { OnOk result (text.new.items ≡ text.old.items ++ line_name slot line) }
-{
+fn print_line_name(text: &mut Vec<u8>, slot: u16, line: u16) -> Result<(), AllocError> {
     begin_text(text, b"s", MIDDLE, 28)?;
     print_number(text, u64::from(slot))?;
     print_numbered(text, b":", u32::from(line))?;
@@ -92,10 +76,7 @@ fn print_activity(
     window: Window,
     activity: &Activity,
     reply: &EventReply,
-) -> Result<(), AllocError>
-    ensures { OnOk result (text.new.items
-        ≡ text.old.items ++ activity_text heading window activity.now reply.now) }
-{
+) -> Result<(), AllocError> {
     match activity {
         Activity::Requests if is_granted(reply) => text.extend_from_slice(b"request granted"),
         Activity::Requests => text.extend_from_slice(b"request waits"),
@@ -109,16 +90,12 @@ fn print_activity(
 }
 
 /// Returns whether a reply grants the bus.
-fn is_granted(reply: &EventReply) -> bool
-    ensures { result ≡ is_granted reply.now }
-{
+fn is_granted(reply: &EventReply) -> bool {
     matches!(reply, EventReply::Bus(ArbReply::Granted))
 }
 
 /// Appends a release, or the cycle before it that no board answers.
-fn print_release(text: &mut Vec<u8>, window: Window) -> Result<(), AllocError>
-    ensures { OnOk result (text.new.items ≡ text.old.items ++ release_word window) }
-{
+fn print_release(text: &mut Vec<u8>, window: Window) -> Result<(), AllocError> {
     match window {
         Window::Unanswered => text.extend_from_slice(b"no board"),
         _ => text.extend_from_slice(b"releases"),
@@ -126,25 +103,19 @@ fn print_release(text: &mut Vec<u8>, window: Window) -> Result<(), AllocError>
 }
 
 /// Appends which datum a cell shows, and the slot of the board that replies.
-#[tactic(auto, unfolding(crate::specs::Headings::datum_text))]
 fn print_datum(
     text: &mut Vec<u8>,
     heading: Heading,
     window: Window,
     datum: &TransferredDatum,
-) -> Result<(), AllocError>
-    ensures { OnOk result
-        (text.new.items ≡ text.old.items ++ datum_text heading window datum.now) }
-{
+) -> Result<(), AllocError> {
     print_number_before(text, heading.datum, is_numbered(window, datum))?;
     print_datum_word(text, window, datum)?;
     print_numbered(text, b"slot ", u32::from(heading.slot))
 }
 
 /// Appends the number of a datum, if it is one of several.
-fn print_number_before(text: &mut Vec<u8>, number: u32, shown: bool) -> Result<(), AllocError>
-    ensures { OnOk result (text.new.items ≡ text.old.items ++ number_before number shown) }
-{
+fn print_number_before(text: &mut Vec<u8>, number: u32, shown: bool) -> Result<(), AllocError> {
     if !shown {
         return Ok(());
     }
@@ -153,9 +124,7 @@ fn print_number_before(text: &mut Vec<u8>, number: u32, shown: bool) -> Result<(
 }
 
 /// Returns whether a handshake has the number of its datum.
-fn is_numbered(window: Window, datum: &TransferredDatum) -> bool
-    ensures { result ≡ is_numbered window datum.now }
-{
+fn is_numbered(window: Window, datum: &TransferredDatum) -> bool {
     match window {
         Window::First => false,
         _ => in_block(datum),
@@ -163,9 +132,7 @@ fn is_numbered(window: Window, datum: &TransferredDatum) -> bool
 }
 
 /// Returns whether a datum is one of several in its transfer.
-fn in_block(datum: &TransferredDatum) -> bool
-    ensures { result ≡ in_block datum.now }
-{
+fn in_block(datum: &TransferredDatum) -> bool {
     !(datum.first && datum.last)
 }
 
@@ -174,9 +141,7 @@ fn print_datum_word(
     text: &mut Vec<u8>,
     window: Window,
     datum: &TransferredDatum,
-) -> Result<(), AllocError>
-    ensures { OnOk result (text.new.items ≡ text.old.items ++ datum_word window datum.now) }
-{
+) -> Result<(), AllocError> {
     match window {
         Window::First if datum.function.is_none() => text.extend_from_slice(b"address "),
         Window::First => text.extend_from_slice(b"read "),
@@ -186,9 +151,7 @@ fn print_datum_word(
 }
 
 /// Appends what a single cycle does.
-fn print_single_word(text: &mut Vec<u8>, datum: &TransferredDatum) -> Result<(), AllocError>
-    ensures { OnOk result (text.new.items ≡ text.old.items ++ single_word datum.now) }
-{
+fn print_single_word(text: &mut Vec<u8>, datum: &TransferredDatum) -> Result<(), AllocError> {
     if in_block(datum) {
         return Ok(());
     }

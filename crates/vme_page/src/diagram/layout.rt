@@ -1,19 +1,14 @@
 //! Where the lines of a strip are.
-ghost use Rattle.std.specs.Prelude.{◌≡◌, ◌+◌, ◌<◌, ◌≤◌, length, map, vec_len, IfOk};
-ghost use Rattle.vme_page.specs.Layouts.{bar_or, port_or, bar_top, bus_top, port_top, height, layout_of, layout_after, bar_after};
+ghost use Rattle.std.specs.Prelude.{◌≡◌, ◌<◌, ◌≤◌, [], length, map, vec_len, IfOk};
+ghost use Rattle.vme_page.specs.Layouts.{bar_or, port_or, bars_after_run, ports_of, layout_past, bar_past};
 
 use crate::diagram::bars::{bars, ports};
-use crate::diagram::point::{slot, value_after};
+use crate::diagram::point::value_past;
 use crate::diagram::window::Window;
 use std::alloc::{AllocError, Global};
 use std::marker::Model;
 use vme_script::Config;
-use vme_trace::{Change, Value};
-
-/// The letter of the bus request line that a slot drives.
-pub(crate) const REQUEST: u8 = b'b';
-/// The letter of BBSY*, as a slot drives it.
-pub(crate) const BUSY: u8 = b'd';
+use vme_trace::{Change, Code, Value};
 
 /// The top of the first bar.
 const TOP: u16 = 46;
@@ -29,25 +24,33 @@ const BUS_LINES: u16 = 10;
 /// A slot whose script has a line over the bus, and the lines of arbitration that it drives.
 #[derive(Clone, Copy, Debug, PartialEq, Eq)]
 pub(crate) struct Bar {
-    /// The first letter of the codes of its variables.
-    pub(crate) letter: u8,
     /// The slot.
     pub(crate) slot: u16,
     /// The level on which it requests the bus.
     pub(crate) level: u8,
-    /// The bus request line.
+    /// The code of the bus request line.
+    pub(crate) request_code: Code,
+    /// Its value before a cell.
     pub(crate) request: Value,
-    /// BBSY*.
+    /// The code of BBSY*.
+    pub(crate) busy_code: Code,
+    /// Its value before a cell.
     pub(crate) busy: Value,
 }
 
 /// A slot whose script has a line of the local port.
 #[derive(Clone, Copy, Debug, PartialEq, Eq)]
 pub(crate) struct LocalPort {
-    /// The first letter of the codes of its variables.
-    pub(crate) letter: u8,
     /// The slot.
     pub(crate) slot: u16,
+    /// The code of the write line.
+    pub(crate) write: Code,
+    /// The code of the offset.
+    pub(crate) offset: Code,
+    /// The code of the data.
+    pub(crate) bytes: Code,
+    /// The code of the bus error.
+    pub(crate) error: Code,
 }
 
 /// The lines of a strip, from the top: a bar for each slot that requests the bus, the lines of the
@@ -70,9 +73,9 @@ impl Model for Layout {
 
 impl Layout {
     /// Returns the layout for a configuration, before the first event.
-    #[tactic(auto, unfolding(crate::specs::Layouts::layout_of))]
     pub(crate) fn new(alloc: Global, config: &Config) -> Result<Layout, AllocError>
-        ensures { IfOk result (λ layout. layout ≡ layout_of config.now) }
+        ensures bars { IfOk result (λ layout. layout.bars ≡ bars_after_run config.now []) }
+        ensures ports { IfOk result (λ layout. layout.ports ≡ ports_of config.now) }
     {
         Ok(Layout {
             bars: bars(alloc, config)?,
@@ -114,8 +117,7 @@ impl Layout {
 
     /// Returns the top of the lines of the bus.
     pub(crate) fn bus_top(&self) -> u16
-        ensures top { result ≡ bus_top self.now }
-        ensures most { result ≤ 1000 }
+        ensures { result ≤ 1000 }
     {
         bar_top(self.bars.len()) + SPACE
     }
@@ -123,53 +125,49 @@ impl Layout {
     /// Returns the top of a local port.
     pub(crate) fn port_top(&self, i: usize) -> u16
         requires { i ≤ 26 }
-        ensures { result ≡ port_top self.now i }
     {
         self.bus_top() + LINE * BUS_LINES + SPACE + PORT * i as u16
     }
 
     /// Returns the height of a strip.
-    pub(crate) fn height(&self) -> u16
-        ensures { result ≡ height self.now }
-    {
+    pub(crate) fn height(&self) -> u16 {
         self.port_top(self.ports.len())
     }
 
-    /// Records the changes of the lines of arbitration.
-    pub(crate) fn record_changes(&mut self, changes: &[Change])
-        ensures { self.new ≡ layout_after changes.now self.old }
+    /// Records the changes of the lines of arbitration in a cell.
+    pub(crate) fn pass(&mut self, window: Window, changes: &[Change])
+        ensures { self.new ≡ layout_past window changes.now self.old }
     {
-        record_bars(&mut self.bars, changes);
+        record_bars(&mut self.bars, window, changes);
     }
 }
 
 impl Bar {
-    /// Returns the bar after an event.
-    fn after(self, changes: &[Change]) -> Bar
-        ensures { result ≡ bar_after changes.now self }
+    /// Returns the bar after a cell.
+    fn past(self, window: Window, changes: &[Change]) -> Bar
+        ensures { result ≡ bar_past window changes.now self }
     {
-        let (request, busy) = (slot(self.letter, REQUEST), slot(self.letter, BUSY));
         Bar {
-            request: value_after(Window::Whole, request, self.request, changes),
-            busy: value_after(Window::Whole, busy, self.busy, changes),
+            request: value_past(window, self.request_code, self.request, changes),
+            busy: value_past(window, self.busy_code, self.busy, changes),
             ..self
         }
     }
 }
 
-/// Records the changes of bars.
-fn record_bars(bars: &mut [Bar], changes: &[Change])
-    ensures { bars.new ≡ map (bar_after changes.now) bars.old }
+/// Records the changes of bars in a cell.
+fn record_bars(bars: &mut [Bar], window: Window, changes: &[Change])
+    ensures { bars.new ≡ map (bar_past window changes.now) bars.old }
 {
     for bar in bars.iter_mut() {
-        *bar = bar.after(changes);
+        *bar = bar.past(window, changes);
     }
 }
 
 /// Returns the top of a bar.
 pub(crate) fn bar_top(i: usize) -> u16
     requires { i ≤ 26 }
-    ensures { result ≡ bar_top i }
+    ensures { result ≤ 670 }
 {
     TOP + LINE * i as u16
 }

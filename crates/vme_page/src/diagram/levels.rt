@@ -1,68 +1,119 @@
-//! The lines of the bus whose values last from one cell to the next.
+//! The values of the lines of the bus before a cell.
 ghost use Rattle.std.specs.Prelude.{◌≡◌};
-ghost use Rattle.vme_page.specs.Levels.{idle, levels_after};
+ghost use Rattle.vme_page.specs.Levels.{idle, levels_past};
 
-use crate::diagram::point::{bus, value_after};
+use crate::diagram::point::value_past;
 use crate::diagram::window::Window;
-use vme_trace::{Change, Value};
+use vme_trace::{Change, Value, Variable};
 
-/// AS*.
-pub(crate) const ADDRESS_STROBE: u8 = b'I';
-/// AM5 to AM0.
-pub(crate) const MODIFIER: u8 = b'J';
-/// A31 to A02.
-pub(crate) const ADDRESS: u8 = b'K';
-/// A01.
-pub(crate) const A01: u8 = b'L';
-/// LWORD*.
-pub(crate) const LWORD: u8 = b'M';
-/// WRITE*.
-pub(crate) const WRITE: u8 = b'N';
-
-/// The values of the lines of the bus that an event may leave driven.
+/// The values of the lines of the bus before a cell.
 #[derive(Clone, Copy, Debug, PartialEq, Eq)]
 pub(crate) struct Levels {
     /// AS*.
-    pub(crate) strobe: Value,
+    pub(crate) address_strobe: Value,
     /// AM5 to AM0.
-    pub(crate) modifier: Value,
+    pub(crate) address_modifier: Value,
     /// A31 to A02.
-    pub(crate) address: Value,
+    pub(crate) address_lines: Value,
     /// A01.
-    pub(crate) a01: Value,
+    pub(crate) first_address_line: Value,
     /// LWORD*.
-    pub(crate) lword: Value,
+    pub(crate) long_word: Value,
     /// WRITE*.
-    pub(crate) write: Value,
+    pub(crate) write_line: Value,
+    /// DS1*.
+    pub(crate) first_strobe: Value,
+    /// DS0*.
+    pub(crate) second_strobe: Value,
+    /// D31 to D00.
+    pub(crate) data_lines: Value,
+    /// D63 to D32, the upper half of eight-byte data.
+    pub(crate) upper_data_lines: Value,
+    /// DTACK*.
+    pub(crate) acknowledge: Value,
+    /// BERR*.
+    pub(crate) bus_error: Value,
 }
 
 impl Levels {
-    /// Returns the values on an idle bus.
+    /// Returns the values before the first event.
     pub(crate) fn idle() -> Levels
         ensures { result ≡ idle }
     {
         Levels {
-            strobe: Value::High,
-            modifier: Value::Released,
-            address: Value::Released,
-            a01: Value::Free,
-            lword: Value::Free,
-            write: Value::Free,
+            address_strobe: Value::High,
+            address_modifier: Value::Released,
+            address_lines: Value::Released,
+            first_address_line: Value::Free,
+            long_word: Value::Free,
+            write_line: Value::Free,
+            first_strobe: Value::High,
+            second_strobe: Value::High,
+            data_lines: Value::Released,
+            upper_data_lines: Value::Released,
+            acknowledge: Value::High,
+            bus_error: Value::High,
         }
     }
 
     /// Returns the values after a cell.
-    #[tactic(auto, unfolding(crate::specs::Levels::levels_after))]
-    pub(crate) fn after(self, window: Window, changes: &[Change]) -> Levels
-        ensures { result ≡ levels_after window changes.now self }
+    #[tactic(auto, unfolding(crate::specs::Levels::levels_over))]
+    pub(crate) fn past(self, window: Window, changes: &[Change]) -> Levels
+        ensures { result ≡ levels_past window changes.now self }
     {
         Levels {
-            strobe: value_after(window, bus(ADDRESS_STROBE), self.strobe, changes),
-            modifier: value_after(window, bus(MODIFIER), self.modifier, changes),
-            address: value_after(window, bus(ADDRESS), self.address, changes),
-            a01: value_after(window, bus(A01), self.a01, changes),
-            lword: value_after(window, bus(LWORD), self.lword, changes),
-            write: value_after(window, bus(WRITE), self.write, changes),
+            address_strobe: value_past(
+                window,
+                Variable::AddressStrobe.code(),
+                self.address_strobe,
+                changes,
+            ),
+            address_modifier: value_past(
+                window,
+                Variable::AddressModifier.code(),
+                self.address_modifier,
+                changes,
+            ),
+            address_lines: value_past(
+                window,
+                Variable::AddressLines.code(),
+                self.address_lines,
+                changes,
+            ),
+            first_address_line: value_past(
+                window,
+                Variable::FirstAddressLine.code(),
+                self.first_address_line,
+                changes,
+            ),
+            long_word: value_past(window, Variable::LongWord.code(), self.long_word, changes),
+            write_line: value_past(window, Variable::WriteLine.code(), self.write_line, changes),
+            first_strobe: value_past(
+                window,
+                Variable::FirstStrobe.code(),
+                self.first_strobe,
+                changes,
+            ),
+            second_strobe: value_past(
+                window,
+                Variable::SecondStrobe.code(),
+                self.second_strobe,
+                changes,
+            ),
+            data_lines: value_past(window, Variable::DataLines.code(), self.data_lines, changes),
+            upper_data_lines: value_past(
+                window,
+                Variable::UpperDataLines.code(),
+                self.upper_data_lines,
+                changes,
+            ),
+            acknowledge: value_past(
+                window,
+                Variable::Acknowledge.code(),
+                self.acknowledge,
+                changes,
+            ),
+            bus_error: value_past(window, Variable::BusError.code(), self.bus_error, changes),
         }
     }
 }

@@ -1,6 +1,8 @@
-//! The values of a line in a cell.
-ghost use Rattle.std.specs.Prelude.{◌≡◌, ◌+◌, ◌<◌, ◌++◌, length, flat_map, IfOk, OnOk};
-ghost use Rattle.vme_page.specs.Points.{bus, slot, is_same, is_in, point_in, line_points, last_value, value_after, first_value, end_of, value_before, number_of};
+//! The values of a variable in a cell.
+ghost use Rattle.std.specs.Prelude.{◌≡◌, ◌<◌, ◌-◌, ◌∷◌, ◌++◌, List, length, flat_map, IfOk, OnOk};
+ghost use Rattle.vme_trace.specs.declared.dump.change.Change.{Change};
+ghost use Rattle.vme_trace.specs.Shown.{is_letter, is_code, value_over};
+ghost use Rattle.vme_page.specs.Points.{is_in, is_due, point_in, line_points, value_past, first_value, number_of};
 
 use crate::diagram::window::Window;
 use std::alloc::AllocError;
@@ -9,7 +11,7 @@ use vme_trace::{Change, Code, Value};
 /// The width of a cell.
 pub(crate) const WIDTH: u8 = 104;
 
-/// A value of a line, and the place in a cell from which it has it.
+/// A value of a variable, and the place in a cell from which it has it.
 #[derive(Clone, Copy, Debug, PartialEq, Eq)]
 pub(crate) struct Point {
     /// The place.
@@ -18,47 +20,32 @@ pub(crate) struct Point {
     pub(crate) value: Value,
 }
 
-/// Returns the code of a line of the bus.
-pub(crate) fn bus(letter: u8) -> Code
-    ensures { result ≡ bus letter }
-{
-    Code {
-        first: letter,
-        second: None,
-    }
-}
-
-/// Returns the code of a line of a slot, by the letter of the slot.
-pub(crate) fn slot(first: u8, letter: u8) -> Code
-    ensures { result ≡ slot first letter }
-{
-    Code {
-        first,
-        second: Some(letter),
-    }
-}
-
-/// Returns whether a change is one of a line in a cell.
+/// Returns whether a change is one of a variable in a cell.
 fn is_in(window: Window, code: Code, change: &Change) -> bool
     ensures { result ≡ is_in window code change.now }
 {
-    change.code.first == code.first
-        && is_same(change.code.second, code.second)
-        && window.shows(change.edge)
+    is_code(code, change.code) && window.shows(change.edge)
 }
 
-/// Returns whether two second letters are the same.
-fn is_same(one: Option<u8>, other: Option<u8>) -> bool
-    ensures { result ≡ is_same one other }
+/// Returns whether a code is that of a variable.
+fn is_code(variable: Code, code: Code) -> bool
+    ensures { result ≡ is_code variable code }
 {
-    match (one, other) {
+    is_letter(variable.second, code.second) && code.first == variable.first
+}
+
+/// Returns whether a second letter is that of a variable.
+fn is_letter(variable: Option<u8>, found: Option<u8>) -> bool
+    ensures { result ≡ is_letter variable found }
+{
+    match (variable, found) {
         (None, None) => true,
-        (Some(one), Some(other)) => one == other,
+        (Some(letter), Some(found)) => found == letter,
         _ => false,
     }
 }
 
-/// Replaces the points by those of a line that has a value at the begin of a cell.
+/// Replaces the points by those of a variable that has a value at the begin of a cell.
 pub(crate) fn collect_points(
     points: &mut Vec<Point>,
     window: Window,
@@ -73,7 +60,7 @@ pub(crate) fn collect_points(
     push_points(points, window, code, changes)
 }
 
-/// Appends the points of the changes of a line in a cell.
+/// Appends the points of the changes of a variable in a cell.
 fn push_points(
     points: &mut Vec<Point>,
     window: Window,
@@ -89,7 +76,7 @@ fn push_points(
     Ok(())
 }
 
-/// Appends the point of a change, if it is one of the line in the cell.
+/// Appends the point of a change, if it is one of the variable in the cell.
 fn push_point(
     points: &mut Vec<Point>,
     window: Window,
@@ -109,20 +96,56 @@ fn push_point(
     Ok(())
 }
 
-/// Returns the value of a line after a cell, by its value before.
-pub(crate) fn value_after(window: Window, code: Code, before: Value, changes: &[Change]) -> Value
-    ensures { result ≡ value_after window code before changes.now }
-{
-    let mut value = before;
-    for change in changes {
-        if is_in(window, code, change) {
-            value = change.value;
-        }
-    }
-    value
+/// The last value of a variable so far, and the edge from which it has it.
+#[derive(Clone, Copy)]
+struct Latest {
+    /// The edge.
+    edge: u8,
+    /// The value.
+    value: Value,
 }
 
-/// Returns the first value that a line changes to in a cell, if it changes.
+impl Latest {
+    /// Returns the last value after one more change, if that is before edge `end`.
+    fn after(self, code: Code, end: u8, change: &Change) -> Latest
+        ensures { (later : List Change) →
+            value_over code (change.now ∷ later) self.edge (end - self.edge) self.value
+            ≡ value_over code later result.edge (end - result.edge) result.value }
+    {
+        if is_due(code, self.edge, end, change) {
+            return Latest {
+                edge: change.edge,
+                value: change.value,
+            };
+        }
+        self
+    }
+}
+
+/// Returns whether a change is one of a variable from an edge on, and before edge `end`.
+fn is_due(code: Code, edge: u8, end: u8, change: &Change) -> bool
+    ensures { result ≡ is_due code edge end change.now }
+{
+    is_code(code, change.code) && edge <= change.edge && change.edge < end
+}
+
+/// Returns the value of a variable after a cell, by its value before: that of the last of the changes
+/// at the last edge.
+pub(crate) fn value_past(window: Window, code: Code, before: Value, changes: &[Change]) -> Value
+    ensures { result ≡ value_past window code changes.now before }
+{
+    let mut latest = Latest {
+        edge: window.first_edge(),
+        value: before,
+    };
+    let end = window.end_edge();
+    for change in changes {
+        latest = latest.after(code, end, change);
+    }
+    latest.value
+}
+
+/// Returns the first value that a variable changes to in a cell, if it changes.
 pub(crate) fn first_value(
     points: &mut Vec<Point>,
     window: Window,
@@ -141,7 +164,6 @@ pub(crate) fn first_value(
 /// Returns the place at which the value of a point ends.
 pub(crate) fn end_of(points: &[Point], i: usize) -> u8
     requires { i < length points.now }
-    ensures { result ≡ end_of points.now i }
 {
     match points.get(i + 1) {
         Some(next) => next.x,
@@ -152,7 +174,6 @@ pub(crate) fn end_of(points: &[Point], i: usize) -> u8
 /// Returns the value before a point; that of the first point itself.
 pub(crate) fn value_before(points: &[Point], i: usize) -> Value
     requires { i < length points.now }
-    ensures { result ≡ value_before points.now i }
 {
     points[i.saturating_sub(1)].value
 }

@@ -1,11 +1,11 @@
 //! The lines of a cell, one below another.
-ghost use Rattle.std.specs.Prelude.{◌≡◌, ◌<◌, ◌++◌, [], length, OnOk};
-ghost use Rattle.vme_grammar.specs.Texts.{lane_text, lanes_text};
-ghost use Rattle.vme_page.specs.Shapes.{dots_text};
-ghost use Rattle.vme_page.specs.Rows.{line_part, is_named, byte_text, number_text, address_label, address_part, lanes_part, data_part, request_frame, busy_bar, busy_label, if_low, part_text, parts_text, row_text, rows_text};
+ghost use Rattle.std.specs.Prelude.{◌<◌, length};
 
 use crate::diagram::point::{Point, collect_points, end_of, value_before};
-use crate::diagram::shape::{Span, begin_text, end_text, print_box, print_dots, print_level, print_numbered, print_rectangle, print_words};
+use crate::diagram::shape::{
+    Span, begin_text, end_text, print_box, print_dots, print_level, print_numbered,
+    print_rectangle, print_words,
+};
 use crate::diagram::window::Window;
 use std::alloc::AllocError;
 use vme_grammar::print_hex;
@@ -56,10 +56,7 @@ pub(crate) fn print_rows(
     window: Window,
     changes: &[Change],
     rows: &[Row],
-) -> Result<(), AllocError>
-    ensures { OnOk result
-        (text.new.items ≡ text.old.items ++ rows_text window changes.now rows.now) }
-{
+) -> Result<(), AllocError> {
     for row in rows {
         print_row(text, points, window, changes, *row)?;
     }
@@ -73,17 +70,18 @@ fn print_row(
     window: Window,
     changes: &[Change],
     row: Row,
-) -> Result<(), AllocError>
-    ensures { OnOk result (text.new.items ≡ text.old.items ++ row_text window changes.now row) }
-{
+) -> Result<(), AllocError> {
     collect_points(points, window, row.code, row.value, changes)?;
     print_parts(text, row.style, points.as_slice(), row.y)
 }
 
 /// Appends the parts of a line.
-fn print_parts(text: &mut Vec<u8>, style: Style, points: &[Point], y: u16) -> Result<(), AllocError>
-    ensures { OnOk result (text.new.items ≡ text.old.items ++ parts_text style points.now y) }
-{
+fn print_parts(
+    text: &mut Vec<u8>,
+    style: Style,
+    points: &[Point],
+    y: u16,
+) -> Result<(), AllocError> {
     for i in 0..points.len() {
         print_part(text, style, points, i, y)?;
     }
@@ -99,7 +97,6 @@ fn print_part(
     y: u16,
 ) -> Result<(), AllocError>
     requires { i < length points.now }
-    ensures { OnOk result (text.new.items ≡ text.old.items ++ part_text style points.now i y) }
 {
     let span = Span::of(points, i);
     let value = points[i].value;
@@ -127,7 +124,6 @@ fn print_line(
     y: u16,
 ) -> Result<(), AllocError>
     requires { i < length points.now }
-    ensures { OnOk result (text.new.items ≡ text.old.items ++ line_part class.now points.now i y) }
 {
     let before = value_before(points, i);
     print_level(text, class, before, points[i], end_of(points, i), y)
@@ -136,7 +132,6 @@ fn print_line(
 /// Returns whether an address has its text.
 fn is_named(leads: bool, points: &[Point], i: usize) -> bool
     requires { i < length points.now }
-    ensures { result ≡ is_named leads points.now i }
 {
     if i == 0 { leads } else { points[i].x < 10 }
 }
@@ -149,10 +144,7 @@ fn print_address(
     value: Value,
     span: Span,
     y: u16,
-) -> Result<(), AllocError>
-    ensures { OnOk result
-        (text.new.items ≡ text.old.items ++ address_part named modifier value span y) }
-{
+) -> Result<(), AllocError> {
     let Value::Number { number, .. } = value else {
         return print_dots(text, span.from, span.to, y);
     };
@@ -164,17 +156,13 @@ fn print_address(
 }
 
 /// Appends the address modifier and the address.
-#[tactic(auto, unfolding(crate::specs::Rows::address_label))]
 fn print_address_label(
     text: &mut Vec<u8>,
     modifier: u8,
     number: u32,
     span: Span,
     y: u16,
-) -> Result<(), AllocError>
-    ensures { OnOk result
-        (text.new.items ≡ text.old.items ++ address_label modifier number span y) }
-{
+) -> Result<(), AllocError> {
     begin_text(text, b"t", span.middle(), u32::from(y) + 11)?;
     print_byte(text, modifier)?;
     text.extend_from_slice(b" ")?;
@@ -183,26 +171,17 @@ fn print_address_label(
 }
 
 /// Appends the two digits of a byte.
-#[tactic(auto, unfolding(crate::specs::Rows::byte_text))]
-pub(crate) fn print_byte(text: &mut Vec<u8>, byte: u8) -> Result<(), AllocError>
-    ensures { OnOk result (text.new.items ≡ text.old.items ++ byte_text byte) }
-{
+pub(crate) fn print_byte(text: &mut Vec<u8>, byte: u8) -> Result<(), AllocError> {
     print_hex(text, &[byte])
 }
 
 /// Appends the eight digits of a number.
-#[tactic(auto, unfolding(crate::specs::Rows::number_text))]
-pub(crate) fn print_number(text: &mut Vec<u8>, number: u32) -> Result<(), AllocError>
-    ensures { OnOk result (text.new.items ≡ text.old.items ++ number_text number) }
-{
+pub(crate) fn print_number(text: &mut Vec<u8>, number: u32) -> Result<(), AllocError> {
     print_hex(text, &number.to_be_bytes())
 }
 
 /// Appends a part of data lanes, or dots if nothing drives them.
-fn print_data(text: &mut Vec<u8>, value: Value, span: Span, y: u16) -> Result<(), AllocError>
-    ensures { OnOk result (text.new.items
-        ≡ text.old.items ++ data_part (dots_text span.from span.to y) value span y) }
-{
+fn print_data(text: &mut Vec<u8>, value: Value, span: Span, y: u16) -> Result<(), AllocError> {
     match value {
         Value::Lanes(lanes) => print_lanes(text, &lanes, span, y),
         _ => print_dots(text, span.from, span.to, y),
@@ -210,9 +189,12 @@ fn print_data(text: &mut Vec<u8>, value: Value, span: Span, y: u16) -> Result<()
 }
 
 /// Appends a part of the upper half of eight-byte data, if something drives it.
-fn print_upper_data(text: &mut Vec<u8>, value: Value, span: Span, y: u16) -> Result<(), AllocError>
-    ensures { OnOk result (text.new.items ≡ text.old.items ++ data_part [] value span y) }
-{
+fn print_upper_data(
+    text: &mut Vec<u8>,
+    value: Value,
+    span: Span,
+    y: u16,
+) -> Result<(), AllocError> {
     match value {
         Value::Lanes(lanes) => print_lanes(text, &lanes, span, y),
         _ => Ok(()),
@@ -220,15 +202,12 @@ fn print_upper_data(text: &mut Vec<u8>, value: Value, span: Span, y: u16) -> Res
 }
 
 /// Appends a part of data lanes.
-#[tactic(auto, unfolding(crate::specs::Rows::lanes_part))]
 fn print_lanes(
     text: &mut Vec<u8>,
     lanes: &[Option<u8>],
     span: Span,
     y: u16,
-) -> Result<(), AllocError>
-    ensures { OnOk result (text.new.items ≡ text.old.items ++ lanes_part lanes.now span y) }
-{
+) -> Result<(), AllocError> {
     print_box(text, b"v", span, y)?;
     begin_text(text, b"t", span.middle(), u32::from(y) + 11)?;
     print_digits(text, lanes)?;
@@ -236,9 +215,7 @@ fn print_lanes(
 }
 
 /// Appends two digits for each lane, or two dashes if nothing drives it.
-fn print_digits(text: &mut Vec<u8>, lanes: &[Option<u8>]) -> Result<(), AllocError>
-    ensures { OnOk result (text.new.items ≡ text.old.items ++ lanes_text lanes.now) }
-{
+fn print_digits(text: &mut Vec<u8>, lanes: &[Option<u8>]) -> Result<(), AllocError> {
     for lane in lanes {
         print_lane(text, *lane)?;
     }
@@ -246,9 +223,7 @@ fn print_digits(text: &mut Vec<u8>, lanes: &[Option<u8>]) -> Result<(), AllocErr
 }
 
 /// Appends two digits of a lane, or two dashes if nothing drives it.
-fn print_lane(text: &mut Vec<u8>, lane: Option<u8>) -> Result<(), AllocError>
-    ensures { OnOk result (text.new.items ≡ text.old.items ++ lane_text lane) }
-{
+fn print_lane(text: &mut Vec<u8>, lane: Option<u8>) -> Result<(), AllocError> {
     match lane {
         Some(byte) => print_hex(text, &[byte]),
         None => text.extend_from_slice(b"--"),
@@ -262,10 +237,7 @@ fn print_request(
     value: Value,
     span: Span,
     y: u16,
-) -> Result<(), AllocError>
-    ensures { OnOk result
-        (text.new.items ≡ text.old.items ++ if_low value (request_frame level span y)) }
-{
+) -> Result<(), AllocError> {
     match value {
         Value::Low => print_frame(text, level, span, y),
         _ => Ok(()),
@@ -273,10 +245,7 @@ fn print_request(
 }
 
 /// Appends a frame.
-#[tactic(auto, unfolding(crate::specs::Rows::request_frame))]
-fn print_frame(text: &mut Vec<u8>, level: u8, span: Span, y: u16) -> Result<(), AllocError>
-    ensures { OnOk result (text.new.items ≡ text.old.items ++ request_frame level span y) }
-{
+fn print_frame(text: &mut Vec<u8>, level: u8, span: Span, y: u16) -> Result<(), AllocError> {
     print_rectangle(text, b"r", span.from, span.to, y, BAR_HEIGHT)?;
     begin_text(text, b"t", span.middle(), u32::from(y) + 11)?;
     print_numbered(text, b"BR", u32::from(level))?;
@@ -284,9 +253,7 @@ fn print_frame(text: &mut Vec<u8>, level: u8, span: Span, y: u16) -> Result<(), 
 }
 
 /// Appends a solid bar, if the slot holds the bus.
-fn print_busy(text: &mut Vec<u8>, value: Value, span: Span, y: u16) -> Result<(), AllocError>
-    ensures { OnOk result (text.new.items ≡ text.old.items ++ if_low value (busy_bar span y)) }
-{
+fn print_busy(text: &mut Vec<u8>, value: Value, span: Span, y: u16) -> Result<(), AllocError> {
     match value {
         Value::Low => print_bar(text, span, y),
         _ => Ok(()),
@@ -294,18 +261,13 @@ fn print_busy(text: &mut Vec<u8>, value: Value, span: Span, y: u16) -> Result<()
 }
 
 /// Appends a solid bar.
-#[tactic(auto, unfolding(crate::specs::Rows::busy_bar))]
-fn print_bar(text: &mut Vec<u8>, span: Span, y: u16) -> Result<(), AllocError>
-    ensures { OnOk result (text.new.items ≡ text.old.items ++ busy_bar span y) }
-{
+fn print_bar(text: &mut Vec<u8>, span: Span, y: u16) -> Result<(), AllocError> {
     print_rectangle(text, b"h", span.from, span.to, y, BAR_HEIGHT)?;
     print_bar_label(text, span, y)
 }
 
 /// Appends the name of BBSY*, where the bar is wide enough.
-fn print_bar_label(text: &mut Vec<u8>, span: Span, y: u16) -> Result<(), AllocError>
-    ensures { OnOk result (text.new.items ≡ text.old.items ++ busy_label span y) }
-{
+fn print_bar_label(text: &mut Vec<u8>, span: Span, y: u16) -> Result<(), AllocError> {
     if span.to.saturating_sub(span.from) < NAMED_WIDTH {
         return Ok(());
     }

@@ -1,7 +1,5 @@
 //! Shapes of SVG.
-ghost use Rattle.std.specs.Prelude.{◌≡◌, ◌<◌, ◌++◌, length, codes, OnOk};
-ghost use Rattle.std.specs.Fmt.{decimal};
-ghost use Rattle.vme_page.specs.Shapes.{path_text, to_text, dots_text, depth, slope_text, line_text, level_text, span_of, middle, left_of, left_text, right_text, box_text, corner_text, size_text, rectangle_text, text_begin, words_text};
+ghost use Rattle.std.specs.Prelude.{◌<◌, length};
 
 use crate::diagram::point::{Point, WIDTH, end_of};
 use std::alloc::AllocError;
@@ -25,7 +23,6 @@ impl Span {
     /// Returns what the value of a point spans.
     pub(crate) fn of(points: &[Point], i: usize) -> Span
         requires { i < length points.now }
-        ensures { result ≡ span_of points.now i }
     {
         let to = end_of(points, i);
         Span {
@@ -37,16 +34,12 @@ impl Span {
     }
 
     /// Returns its middle.
-    pub(crate) fn middle(self) -> u16
-        ensures { result ≡ middle self }
-    {
+    pub(crate) fn middle(self) -> u16 {
         (u16::from(self.from) + u16::from(self.to)) / 2
     }
 
     /// Returns the left end of the long sides of its box.
-    fn left(self) -> u16
-        ensures { result ≡ left_of self }
-    {
+    fn left(self) -> u16 {
         if self.begins {
             u16::from(self.from) + 3
         } else {
@@ -60,18 +53,13 @@ pub(crate) fn print_numbered(
     text: &mut Vec<u8>,
     words: &[u8],
     number: u32,
-) -> Result<(), AllocError>
-    ensures { OnOk result (text.new.items ≡ text.old.items ++ (words.now ++ decimal number)) }
-{
+) -> Result<(), AllocError> {
     text.extend_from_slice(words)?;
     print_number(text, u64::from(number))
 }
 
 /// Appends the begin of a path at a point.
-#[tactic(auto, unfolding(crate::specs::Shapes::path_text))]
-fn print_path(text: &mut Vec<u8>, class: &[u8], x: u16, y: u32) -> Result<(), AllocError>
-    ensures { OnOk result (text.new.items ≡ text.old.items ++ path_text class.now x y) }
-{
+fn print_path(text: &mut Vec<u8>, class: &[u8], x: u16, y: u32) -> Result<(), AllocError> {
     text.extend_from_slice(b"<path class='")?;
     text.extend_from_slice(class)?;
     print_numbered(text, b"' d='M", u32::from(x))?;
@@ -79,27 +67,19 @@ fn print_path(text: &mut Vec<u8>, class: &[u8], x: u16, y: u32) -> Result<(), Al
 }
 
 /// Appends a horizontal line to a place.
-#[tactic(auto, unfolding(crate::specs::Shapes::to_text))]
-fn print_to(text: &mut Vec<u8>, x: u16) -> Result<(), AllocError>
-    ensures { OnOk result (text.new.items ≡ text.old.items ++ to_text x) }
-{
+fn print_to(text: &mut Vec<u8>, x: u16) -> Result<(), AllocError> {
     print_numbered(text, b"H", u32::from(x))
 }
 
 /// Appends the dots of a line that nothing drives.
-#[tactic(auto, unfolding(crate::specs::Shapes::dots_text))]
-pub(crate) fn print_dots(text: &mut Vec<u8>, from: u8, to: u8, y: u16) -> Result<(), AllocError>
-    ensures { OnOk result (text.new.items ≡ text.old.items ++ dots_text from to y) }
-{
+pub(crate) fn print_dots(text: &mut Vec<u8>, from: u8, to: u8, y: u16) -> Result<(), AllocError> {
     print_path(text, b"z", u16::from(from), u32::from(y) + 7)?;
     print_to(text, u16::from(to))?;
     text.extend_from_slice(b"'/>")
 }
 
 /// Returns how far below the high level a driven line is.
-fn depth(value: Value) -> Option<u8>
-    ensures { result ≡ depth value }
-{
+fn depth(value: Value) -> Option<u8> {
     match value {
         Value::High => Some(0),
         Value::Low => Some(14),
@@ -115,10 +95,7 @@ pub(crate) fn print_level(
     point: Point,
     to: u8,
     y: u16,
-) -> Result<(), AllocError>
-    ensures { OnOk result
-        (text.new.items ≡ text.old.items ++ level_text class.now before point to y) }
-{
+) -> Result<(), AllocError> {
     match depth(point.value) {
         Some(level) => {
             let from = match depth(before) {
@@ -132,7 +109,6 @@ pub(crate) fn print_level(
 }
 
 /// Appends a line at a level, with the slope that leads to it.
-#[tactic(auto, unfolding(crate::specs::Shapes::line_text))]
 fn print_driven(
     text: &mut Vec<u8>,
     class: &[u8],
@@ -141,10 +117,7 @@ fn print_driven(
     x: u8,
     to: u8,
     y: u16,
-) -> Result<(), AllocError>
-    ensures { OnOk result
-        (text.new.items ≡ text.old.items ++ line_text class.now from level x to y) }
-{
+) -> Result<(), AllocError> {
     print_path(text, class, u16::from(x), u32::from(y) + u32::from(from))?;
     print_slope(text, from, level)?;
     print_to(text, u16::from(to))?;
@@ -152,9 +125,7 @@ fn print_driven(
 }
 
 /// Appends the slope from a depth to another.
-fn print_slope(text: &mut Vec<u8>, from: u8, level: u8) -> Result<(), AllocError>
-    ensures { OnOk result (text.new.items ≡ text.old.items ++ slope_text from level) }
-{
+fn print_slope(text: &mut Vec<u8>, from: u8, level: u8) -> Result<(), AllocError> {
     if from < level {
         return text.extend_from_slice(b"l4 14");
     }
@@ -165,15 +136,12 @@ fn print_slope(text: &mut Vec<u8>, from: u8, level: u8) -> Result<(), AllocError
 }
 
 /// Appends the box of a value of several lines.
-#[tactic(auto, unfolding(crate::specs::Shapes::box_text))]
 pub(crate) fn print_box(
     text: &mut Vec<u8>,
     class: &[u8],
     span: Span,
     y: u16,
-) -> Result<(), AllocError>
-    ensures { OnOk result (text.new.items ≡ text.old.items ++ box_text class.now span y) }
-{
+) -> Result<(), AllocError> {
     print_path(text, class, span.left(), u32::from(y))?;
     print_left(text, span.begins)?;
     print_right(text, span)?;
@@ -182,9 +150,7 @@ pub(crate) fn print_box(
 }
 
 /// Appends the left side of a box: a corner, or open.
-fn print_left(text: &mut Vec<u8>, begins: bool) -> Result<(), AllocError>
-    ensures { OnOk result (text.new.items ≡ text.old.items ++ left_text begins) }
-{
+fn print_left(text: &mut Vec<u8>, begins: bool) -> Result<(), AllocError> {
     if begins {
         text.extend_from_slice(b"l-3 7l3 7")
     } else {
@@ -193,9 +159,7 @@ fn print_left(text: &mut Vec<u8>, begins: bool) -> Result<(), AllocError>
 }
 
 /// Appends the lower long side of a box, and its right side: a corner, or open.
-fn print_right(text: &mut Vec<u8>, span: Span) -> Result<(), AllocError>
-    ensures { OnOk result (text.new.items ≡ text.old.items ++ right_text span) }
-{
+fn print_right(text: &mut Vec<u8>, span: Span) -> Result<(), AllocError> {
     if span.ends {
         print_to(text, u16::from(span.to.saturating_sub(3)))?;
         return text.extend_from_slice(b"l3 -7l-3 -7");
@@ -212,19 +176,13 @@ pub(crate) fn print_rectangle(
     to: u8,
     y: u16,
     height: u16,
-) -> Result<(), AllocError>
-    ensures { OnOk result
-        (text.new.items ≡ text.old.items ++ rectangle_text class.now from to y height) }
-{
+) -> Result<(), AllocError> {
     print_corner(text, class, from, y)?;
     print_size(text, to.saturating_sub(from), height)
 }
 
 /// Appends the begin of a rectangle.
-#[tactic(auto, unfolding(crate::specs::Shapes::corner_text))]
-fn print_corner(text: &mut Vec<u8>, class: &[u8], x: u8, y: u16) -> Result<(), AllocError>
-    ensures { OnOk result (text.new.items ≡ text.old.items ++ corner_text class.now x y) }
-{
+fn print_corner(text: &mut Vec<u8>, class: &[u8], x: u8, y: u16) -> Result<(), AllocError> {
     text.extend_from_slice(b"<rect class='")?;
     text.extend_from_slice(class)?;
     print_numbered(text, b"' x='", u32::from(x))?;
@@ -232,20 +190,19 @@ fn print_corner(text: &mut Vec<u8>, class: &[u8], x: u8, y: u16) -> Result<(), A
 }
 
 /// Appends the size of a rectangle.
-#[tactic(auto, unfolding(crate::specs::Shapes::size_text))]
-fn print_size(text: &mut Vec<u8>, width: u8, height: u16) -> Result<(), AllocError>
-    ensures { OnOk result (text.new.items ≡ text.old.items ++ size_text width height) }
-{
+fn print_size(text: &mut Vec<u8>, width: u8, height: u16) -> Result<(), AllocError> {
     print_numbered(text, b"' width='", u32::from(width))?;
     print_numbered(text, b"' height='", u32::from(height))?;
     text.extend_from_slice(b"'/>")
 }
 
 /// Appends the begin of a text, whose base line is at a place.
-#[tactic(auto, unfolding(crate::specs::Shapes::text_begin))]
-pub(crate) fn begin_text(text: &mut Vec<u8>, class: &[u8], x: u16, y: u32) -> Result<(), AllocError>
-    ensures { OnOk result (text.new.items ≡ text.old.items ++ text_begin class.now x y) }
-{
+pub(crate) fn begin_text(
+    text: &mut Vec<u8>,
+    class: &[u8],
+    x: u16,
+    y: u32,
+) -> Result<(), AllocError> {
     text.extend_from_slice(b"<text class='")?;
     text.extend_from_slice(class)?;
     print_numbered(text, b"' x='", u32::from(x))?;
@@ -254,9 +211,7 @@ pub(crate) fn begin_text(text: &mut Vec<u8>, class: &[u8], x: u16, y: u32) -> Re
 }
 
 /// Appends the end of a text.
-pub(crate) fn end_text(text: &mut Vec<u8>) -> Result<(), AllocError>
-    ensures { OnOk result (text.new.items ≡ text.old.items ++ codes "</text>") }
-{
+pub(crate) fn end_text(text: &mut Vec<u8>) -> Result<(), AllocError> {
     text.extend_from_slice(b"</text>")
 }
 
@@ -267,10 +222,7 @@ pub(crate) fn print_words(
     x: u16,
     y: u32,
     words: &[u8],
-) -> Result<(), AllocError>
-    ensures { OnOk result
-        (text.new.items ≡ text.old.items ++ words_text class.now x y words.now) }
-{
+) -> Result<(), AllocError> {
     begin_text(text, class, x, y)?;
     text.extend_from_slice(words)?;
     end_text(text)

@@ -1,6 +1,5 @@
 //! The begin of a strip.
-ghost use Rattle.std.specs.Prelude.{◌≡◌, ◌<◌, ◌≤◌, ◌++◌, length, OnOk};
-ghost use Rattle.vme_page.specs.Strips.{view_words, size_words, label_words, strip_begin, name_text, slot_name, heading_names, address_names, data_names, bar_name, bar_names, port_name, port_names, names_text, strip_text};
+ghost use Rattle.std.specs.Prelude.{◌<◌, ◌≤◌, length};
 
 use crate::diagram::layout::{Layout, bar_top};
 use crate::diagram::shape::{begin_text, end_text, print_numbered, print_words};
@@ -11,58 +10,25 @@ const NAMES_END: u16 = 84;
 
 /// Appends the begin of a strip, and the names of its lines. `number` is the number of its first
 /// event.
-#[tactic(auto, unfolding(crate::specs::Strips::strip_text))]
 pub(crate) fn print_strip(
     text: &mut Vec<u8>,
     layout: &Layout,
     number: u32,
-) -> Result<(), AllocError>
-    ensures { OnOk result (text.new.items ≡ text.old.items ++ strip_text layout.now number) }
-{
+) -> Result<(), AllocError> {
     begin_strip(text, layout.height(), number)?;
     print_names(text, layout)
 }
 
 /// Appends the begin of a strip.
-#[tactic(auto, unfolding(crate::specs::Strips::strip_begin))]
-fn begin_strip(text: &mut Vec<u8>, height: u16, number: u32) -> Result<(), AllocError>
-    ensures { OnOk result (text.new.items ≡ text.old.items ++ strip_begin height number) }
-{
-    print_numbered(text, view_words(), u32::from(height))?;
-    print_numbered(text, size_words(), u32::from(height))?;
-    print_numbered(text, label_words(), number)?;
+fn begin_strip(text: &mut Vec<u8>, height: u16, number: u32) -> Result<(), AllocError> {
+    print_numbered(text, b"<svg viewBox='0 0 1132 ", u32::from(height))?;
+    print_numbered(text, b"' width='1132' height='", u32::from(height))?;
+    print_numbered(text, b"' role='img' aria-label='events from ", number)?;
     text.extend_from_slice(b"'>\n")
 }
 
-/// Returns the words before the height of a strip in its view.
-#[tactic(auto, unfolding(crate::specs::Strips::view_words))]
-fn view_words() -> &'static [u8]
-    ensures { result.now ≡ view_words }
-{
-    b"<svg viewBox='0 0 1132 "
-}
-
-/// Returns the words before the height of a strip.
-#[tactic(auto, unfolding(crate::specs::Strips::size_words))]
-fn size_words() -> &'static [u8]
-    ensures { result.now ≡ size_words }
-{
-    b"' width='1132' height='"
-}
-
-/// Returns the words before the number of the first event of a strip.
-#[tactic(auto, unfolding(crate::specs::Strips::label_words))]
-fn label_words() -> &'static [u8]
-    ensures { result.now ≡ label_words }
-{
-    b"' role='img' aria-label='events from "
-}
-
 /// Appends the names of the lines of a strip.
-#[tactic(auto, unfolding(crate::specs::Strips::names_text))]
-fn print_names(text: &mut Vec<u8>, layout: &Layout) -> Result<(), AllocError>
-    ensures { OnOk result (text.new.items ≡ text.old.items ++ names_text layout.now) }
-{
+fn print_names(text: &mut Vec<u8>, layout: &Layout) -> Result<(), AllocError> {
     let top = u32::from(layout.bus_top());
     print_heading_names(text)?;
     print_bar_names(text, layout)?;
@@ -73,25 +39,18 @@ fn print_names(text: &mut Vec<u8>, layout: &Layout) -> Result<(), AllocError>
 }
 
 /// Appends the name of a line.
-fn print_name(text: &mut Vec<u8>, y: u32, name: &[u8]) -> Result<(), AllocError>
-    ensures { OnOk result (text.new.items ≡ text.old.items ++ name_text y name.now) }
-{
+fn print_name(text: &mut Vec<u8>, y: u32, name: &[u8]) -> Result<(), AllocError> {
     print_words(text, b"n", NAMES_END, y, name)
 }
 
 /// Appends the names of the lines of the heading.
-#[tactic(auto, unfolding(crate::specs::Strips::heading_names))]
-fn print_heading_names(text: &mut Vec<u8>) -> Result<(), AllocError>
-    ensures { OnOk result (text.new.items ≡ text.old.items ++ heading_names) }
-{
+fn print_heading_names(text: &mut Vec<u8>) -> Result<(), AllocError> {
     print_name(text, 14, b"event")?;
     print_name(text, 28, b"slot:line")
 }
 
 /// Appends the names of the bars.
-fn print_bar_names(text: &mut Vec<u8>, layout: &Layout) -> Result<(), AllocError>
-    ensures { OnOk result (text.new.items ≡ text.old.items ++ bar_names layout.now) }
-{
+fn print_bar_names(text: &mut Vec<u8>, layout: &Layout) -> Result<(), AllocError> {
     for i in 0..layout.bar_count() {
         print_bar_name(text, layout, i)?;
     }
@@ -102,16 +61,12 @@ fn print_bar_names(text: &mut Vec<u8>, layout: &Layout) -> Result<(), AllocError
 fn print_bar_name(text: &mut Vec<u8>, layout: &Layout, i: usize) -> Result<(), AllocError>
     requires within { i < length layout.now.bars }
     requires few { i ≤ 26 }
-    ensures { OnOk result (text.new.items ≡ text.old.items ++ bar_name layout.now i) }
 {
     print_slot(text, layout.bar(i).slot, b"", u32::from(bar_top(i)) + 11)
 }
 
 /// Appends the name of a slot, with a word.
-#[tactic(auto, unfolding(crate::specs::Strips::slot_name))]
-fn print_slot(text: &mut Vec<u8>, slot: u16, word: &[u8], y: u32) -> Result<(), AllocError>
-    ensures { OnOk result (text.new.items ≡ text.old.items ++ slot_name slot word.now y) }
-{
+fn print_slot(text: &mut Vec<u8>, slot: u16, word: &[u8], y: u32) -> Result<(), AllocError> {
     begin_text(text, b"n", NAMES_END, y)?;
     print_numbered(text, b"slot ", u32::from(slot))?;
     text.extend_from_slice(word)?;
@@ -119,10 +74,8 @@ fn print_slot(text: &mut Vec<u8>, slot: u16, word: &[u8], y: u32) -> Result<(), 
 }
 
 /// Appends the names of the lines of the address.
-#[tactic(auto, unfolding(crate::specs::Strips::address_names))]
 fn print_address_names(text: &mut Vec<u8>, y: u32) -> Result<(), AllocError>
     requires { y ≤ 1000 }
-    ensures { OnOk result (text.new.items ≡ text.old.items ++ address_names y) }
 {
     print_name(text, y + 11, b"AM A31-A02")?;
     print_name(text, y + 35, b"WRITE*")?;
@@ -132,10 +85,8 @@ fn print_address_names(text: &mut Vec<u8>, y: u32) -> Result<(), AllocError>
 }
 
 /// Appends the names of the lines of the data.
-#[tactic(auto, unfolding(crate::specs::Strips::data_names))]
 fn print_data_names(text: &mut Vec<u8>, y: u32) -> Result<(), AllocError>
     requires { y ≤ 1000 }
-    ensures { OnOk result (text.new.items ≡ text.old.items ++ data_names y) }
 {
     print_name(text, y + 131, b"DS1*")?;
     print_name(text, y + 155, b"DS0*")?;
@@ -145,9 +96,7 @@ fn print_data_names(text: &mut Vec<u8>, y: u32) -> Result<(), AllocError>
 }
 
 /// Appends the names of the local ports.
-fn print_port_names(text: &mut Vec<u8>, layout: &Layout) -> Result<(), AllocError>
-    ensures { OnOk result (text.new.items ≡ text.old.items ++ port_names layout.now) }
-{
+fn print_port_names(text: &mut Vec<u8>, layout: &Layout) -> Result<(), AllocError> {
     for i in 0..layout.port_count() {
         print_port_name(text, layout, i)?;
     }
@@ -158,7 +107,6 @@ fn print_port_names(text: &mut Vec<u8>, layout: &Layout) -> Result<(), AllocErro
 fn print_port_name(text: &mut Vec<u8>, layout: &Layout, i: usize) -> Result<(), AllocError>
     requires within { i < length layout.now.ports }
     requires few { i ≤ 26 }
-    ensures { OnOk result (text.new.items ≡ text.old.items ++ port_name layout.now i) }
 {
     let y = u32::from(layout.port_top(i)) + 18;
     print_slot(text, layout.port(i).slot, b" local", y)

@@ -1,6 +1,8 @@
 //! Which edges of an event a cell shows, and where.
-ghost use Rattle.std.specs.Prelude.{◌≡◌};
-ghost use Rattle.vme_page.specs.Windows.{shows, place, handshake_place, arbitration_place};
+ghost use Rattle.std.specs.Prelude.{◌≡◌, ◌<◌, ◌≤◌};
+ghost use Rattle.vme_page.specs.Windows.{first_edge, end_edge, shows, place, handshake_place, arbitration_place};
+
+use vme_trace::edge::{BEGIN, EDGES, FIRST, RELEASE, SECOND};
 
 /// The places of the edges of a handshake. They keep the order of the edges; the distances mean
 /// nothing.
@@ -27,17 +29,34 @@ pub(crate) enum Window {
 }
 
 impl Window {
+    /// Returns the first edge that the cell shows.
+    pub(crate) fn first_edge(self) -> u8
+        ensures value { result ≡ first_edge self }
+        ensures within { result < EDGES }
+    {
+        match self {
+            Window::Second => SECOND,
+            Window::Release => RELEASE,
+            _ => BEGIN,
+        }
+    }
+
+    /// Returns the edge after the last one that the cell shows.
+    pub(crate) fn end_edge(self) -> u8
+        ensures { result ≡ end_edge self }
+    {
+        match self {
+            Window::First => SECOND,
+            Window::Unanswered => RELEASE,
+            _ => EDGES,
+        }
+    }
+
     /// Returns whether the cell shows an edge.
     pub(crate) fn shows(self, edge: u8) -> bool
         ensures { result ≡ shows self edge }
     {
-        match self {
-            Window::Whole | Window::Arbitration => true,
-            Window::First => edge < 10,
-            Window::Second => 10 <= edge,
-            Window::Unanswered => edge < 12,
-            Window::Release => 12 <= edge,
-        }
+        self.first_edge() <= edge && edge < self.end_edge()
     }
 
     /// Returns the place of an edge.
@@ -46,9 +65,9 @@ impl Window {
     {
         match self {
             Window::Whole | Window::First | Window::Unanswered => handshake_place(edge),
-            Window::Second => handshake_place(edge.saturating_sub(9)),
+            Window::Second => handshake_place(edge.saturating_sub(SECOND - FIRST)),
             Window::Arbitration => arbitration_place(edge),
-            Window::Release => arbitration_place(edge.saturating_sub(12)),
+            Window::Release => arbitration_place(edge.saturating_sub(RELEASE)),
         }
     }
 }

@@ -1,9 +1,15 @@
 //! The lines of the bus in the handshakes of an event.
 ghost use Rattle.std.specs.Prelude.{◌≡◌, ◌<◌, ◌++◌, OnOk};
+ghost use Rattle.vme_trace.specs.Variables.{board_of};
 ghost use Rattle.vme_trace.specs.Bus.{is_wide, drive_edge, upper_number, address_strobe_changes, address_changes, level_changes, data_strobe_changes, data_changes, answer_changes, handshake_changes, some_handshake_changes, address_level_changes, byte_on, lower_lanes, upper_lanes};
 
-use crate::dump::change::{Change, Code, Value, push_if};
+use crate::dump::change::{Change, Value, push_if};
+use crate::dump::edge::{
+    ADDRESS_RELEASED, ANSWER_FALLS, ANSWER_RISES, BEGIN, BOARD_DRIVES, DATA_RELEASED, FIRST,
+    MASTER_DRIVES, SECOND, STROBES_FALL, STROBES_RISE,
+};
 use crate::dump::handshake::Handshake;
+use crate::dump::variable::Variable;
 use std::alloc::AllocError;
 use vme_cycle::Signals;
 
@@ -38,18 +44,27 @@ fn push_handshake(changes: &mut Vec<Change>, shake: &Handshake) -> Result<(), Al
 fn push_address_strobe(changes: &mut Vec<Change>, shake: &Handshake) -> Result<(), AllocError>
     ensures { OnOk result (changes.new.items ≡ changes.old.items ++ address_strobe_changes shake.now) }
 {
-    let (strobe, modifier) = (Code::bus(b'I'), Code::bus(b'J'));
+    let (strobe, modifier) = (
+        Variable::AddressStrobe.code(),
+        Variable::AddressModifier.code(),
+    );
     let code = Value::Number {
         width: 6,
         number: u32::from(shake.lines.am().code()),
     };
-    push_if(changes, shake.opens, 1, strobe, Value::Low)?;
-    push_if(changes, shake.ends, shake.edge(6), strobe, Value::High)?;
-    push_if(changes, shake.opens, 0, modifier, code)?;
+    push_if(changes, shake.opens, FIRST, strobe, Value::Low)?;
     push_if(
         changes,
         shake.ends,
-        shake.edge(9),
+        shake.edge(STROBES_RISE),
+        strobe,
+        Value::High,
+    )?;
+    push_if(changes, shake.opens, BEGIN, modifier, code)?;
+    push_if(
+        changes,
+        shake.ends,
+        shake.edge(ADDRESS_RELEASED),
         modifier,
         Value::Released,
     )
@@ -60,7 +75,7 @@ fn push_address_strobe(changes: &mut Vec<Change>, shake: &Handshake) -> Result<(
 fn push_address(changes: &mut Vec<Change>, shake: &Handshake) -> Result<(), AllocError>
     ensures { OnOk result (changes.new.items ≡ changes.old.items ++ address_changes shake.now) }
 {
-    let code = Code::bus(b'K');
+    let code = Variable::AddressLines.code();
     let wide = is_wide(shake);
     let upper = upper_number(&shake.lines);
     let address = Value::Number {
@@ -71,11 +86,23 @@ fn push_address(changes: &mut Vec<Change>, shake: &Handshake) -> Result<(), Allo
         width: 32,
         number: upper - upper % 4,
     };
-    push_if(changes, shake.opens, 0, code, address)?;
-    push_if(changes, shake.clears, 10, code, Value::Released)?;
+    push_if(changes, shake.opens, BEGIN, code, address)?;
+    push_if(changes, shake.clears, SECOND, code, Value::Released)?;
     push_if(changes, wide, drive_edge(shake), code, data)?;
-    push_if(changes, wide, shake.edge(7), code, Value::Released)?;
-    push_if(changes, shake.ends, shake.edge(9), code, Value::Released)
+    push_if(
+        changes,
+        wide,
+        shake.edge(DATA_RELEASED),
+        code,
+        Value::Released,
+    )?;
+    push_if(
+        changes,
+        shake.ends,
+        shake.edge(ADDRESS_RELEASED),
+        code,
+        Value::Released,
+    )
 }
 
 /// A01, LWORD* and WRITE*.
@@ -85,38 +112,63 @@ fn push_levels(changes: &mut Vec<Change>, shake: &Handshake) -> Result<(), Alloc
 {
     let strobes = shake.lines.strobes();
     let upper = upper_number(&shake.lines);
-    let write = Code::bus(b'N');
-    push_address_level(changes, shake, b'L', strobes.a01, upper / 2 % 2 == 1)?;
-    push_address_level(changes, shake, b'M', strobes.lword, upper % 2 == 1)?;
+    let write = Variable::WriteLine.code();
+    push_address_level(
+        changes,
+        shake,
+        Variable::FirstAddressLine,
+        strobes.a01,
+        upper / 2 % 2 == 1,
+    )?;
+    push_address_level(
+        changes,
+        shake,
+        Variable::LongWord,
+        strobes.lword,
+        upper % 2 == 1,
+    )?;
     push_if(
         changes,
         shake.opens,
-        0,
+        BEGIN,
         write,
         Value::level(shake.lines.write()),
     )?;
-    push_if(changes, shake.falls, 10, write, Value::Low)?;
-    push_if(changes, shake.ends, shake.edge(9), write, Value::Free)
+    push_if(changes, shake.falls, SECOND, write, Value::Low)?;
+    push_if(
+        changes,
+        shake.ends,
+        shake.edge(ADDRESS_RELEASED),
+        write,
+        Value::Free,
+    )
 }
 
 /// A line that shows a level with the address, and a bit of eight-byte data.
 fn push_address_level(
     changes: &mut Vec<Change>,
     shake: &Handshake,
-    letter: u8,
+    variable: Variable,
     level: bool,
     bit: bool,
 ) -> Result<(), AllocError>
+    requires { board_of variable < 26 }
     ensures { OnOk result (changes.new.items
-        ≡ changes.old.items ++ address_level_changes shake.now letter level bit) }
+        ≡ changes.old.items ++ address_level_changes shake.now variable level bit) }
 {
-    let code = Code::bus(letter);
+    let code = variable.code();
     let wide = is_wide(shake);
-    push_if(changes, shake.opens, 0, code, Value::level(level))?;
-    push_if(changes, shake.clears, 10, code, Value::Free)?;
+    push_if(changes, shake.opens, BEGIN, code, Value::level(level))?;
+    push_if(changes, shake.clears, SECOND, code, Value::Free)?;
     push_if(changes, wide, drive_edge(shake), code, Value::level(bit))?;
-    push_if(changes, wide, shake.edge(7), code, Value::Free)?;
-    push_if(changes, shake.ends, shake.edge(9), code, Value::Free)
+    push_if(changes, wide, shake.edge(DATA_RELEASED), code, Value::Free)?;
+    push_if(
+        changes,
+        shake.ends,
+        shake.edge(ADDRESS_RELEASED),
+        code,
+        Value::Free,
+    )
 }
 
 /// DS1* and DS0*.
@@ -125,11 +177,35 @@ fn push_data_strobes(changes: &mut Vec<Change>, shake: &Handshake) -> Result<(),
     ensures { OnOk result (changes.new.items ≡ changes.old.items ++ data_strobe_changes shake.now) }
 {
     let strobes = shake.lines.strobes();
-    let (first, second) = (Code::bus(b'O'), Code::bus(b'P'));
-    push_if(changes, !strobes.ds1, shake.edge(1), first, Value::Low)?;
-    push_if(changes, !strobes.ds1, shake.edge(6), first, Value::High)?;
-    push_if(changes, !strobes.ds0, shake.edge(1), second, Value::Low)?;
-    push_if(changes, !strobes.ds0, shake.edge(6), second, Value::High)
+    let (first, second) = (Variable::FirstStrobe.code(), Variable::SecondStrobe.code());
+    push_if(
+        changes,
+        !strobes.ds1,
+        shake.edge(STROBES_FALL),
+        first,
+        Value::Low,
+    )?;
+    push_if(
+        changes,
+        !strobes.ds1,
+        shake.edge(STROBES_RISE),
+        first,
+        Value::High,
+    )?;
+    push_if(
+        changes,
+        !strobes.ds0,
+        shake.edge(STROBES_FALL),
+        second,
+        Value::Low,
+    )?;
+    push_if(
+        changes,
+        !strobes.ds0,
+        shake.edge(STROBES_RISE),
+        second,
+        Value::High,
+    )
 }
 
 /// D31 to D00, and the upper half of eight-byte data.
@@ -138,7 +214,7 @@ fn push_data(changes: &mut Vec<Change>, shake: &Handshake) -> Result<(), AllocEr
     ensures { OnOk result (changes.new.items ≡ changes.old.items ++ data_changes shake.now) }
 {
     let lanes = shake.lines.lines().lanes();
-    let (lower, upper) = (Code::bus(b'Q'), Code::bus(b'R'));
+    let (lower, upper) = (Variable::DataLines.code(), Variable::UpperDataLines.code());
     let wide = is_wide(shake);
     push_if(
         changes,
@@ -150,7 +226,7 @@ fn push_data(changes: &mut Vec<Change>, shake: &Handshake) -> Result<(), AllocEr
     push_if(
         changes,
         shake.carries,
-        shake.edge(7),
+        shake.edge(DATA_RELEASED),
         lower,
         Value::Released,
     )?;
@@ -161,7 +237,13 @@ fn push_data(changes: &mut Vec<Change>, shake: &Handshake) -> Result<(), AllocEr
         upper,
         Value::Lanes(upper_lanes(lanes)),
     )?;
-    push_if(changes, wide, shake.edge(7), upper, Value::Released)
+    push_if(
+        changes,
+        wide,
+        shake.edge(DATA_RELEASED),
+        upper,
+        Value::Released,
+    )
 }
 
 /// DTACK* and BERR*.
@@ -169,11 +251,12 @@ fn push_data(changes: &mut Vec<Change>, shake: &Handshake) -> Result<(), AllocEr
 fn push_answer(changes: &mut Vec<Change>, shake: &Handshake) -> Result<(), AllocError>
     ensures { OnOk result (changes.new.items ≡ changes.old.items ++ answer_changes shake.now) }
 {
-    let (done, error) = (Code::bus(b'S'), Code::bus(b'T'));
-    push_if(changes, !shake.berr, shake.edge(3), done, Value::Low)?;
-    push_if(changes, !shake.berr, shake.edge(8), done, Value::High)?;
-    push_if(changes, shake.berr, shake.edge(3), error, Value::Low)?;
-    push_if(changes, shake.berr, shake.edge(8), error, Value::High)
+    let (done, error) = (Variable::Acknowledge.code(), Variable::BusError.code());
+    let (falls, rises) = (shake.edge(ANSWER_FALLS), shake.edge(ANSWER_RISES));
+    push_if(changes, !shake.berr, falls, done, Value::Low)?;
+    push_if(changes, !shake.berr, rises, done, Value::High)?;
+    push_if(changes, shake.berr, falls, error, Value::Low)?;
+    push_if(changes, shake.berr, rises, error, Value::High)
 }
 
 /// Whether a handshake moves eight bytes, four of them over the address lines.
@@ -189,9 +272,9 @@ fn drive_edge(shake: &Handshake) -> u8
     ensures { result ≡ drive_edge shake.now }
 {
     if shake.lines.write() {
-        shake.edge(2)
+        shake.edge(BOARD_DRIVES)
     } else {
-        shake.edge(0)
+        shake.edge(MASTER_DRIVES)
     }
 }
 

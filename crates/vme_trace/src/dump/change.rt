@@ -1,6 +1,6 @@
 //! Changes of variables.
-ghost use Rattle.std.specs.Prelude.{◌≡◌, ◌<◌, ◌++◌, OnOk};
-ghost use Rattle.vme_trace.specs.Changes.{bus_code, slot_code, level_of, change_if};
+ghost use Rattle.std.specs.Prelude.{◌≡◌, ◌++◌, OnOk};
+ghost use Rattle.vme_trace.specs.Changes.{level_of, change_if};
 
 use std::alloc::AllocError;
 
@@ -39,29 +39,6 @@ pub struct Change {
     pub code: Code,
     /// Its value from now on.
     pub value: Value,
-}
-
-impl Code {
-    /// Returns the code of a variable of the bus.
-    pub(crate) fn bus(letter: u8) -> Code
-        ensures { result ≡ bus_code letter }
-    {
-        Code {
-            first: letter,
-            second: None,
-        }
-    }
-
-    /// Returns the code of a variable of a board's slot, by the index of the board.
-    pub(crate) fn slot(board: usize, letter: u8) -> Code
-        requires { board < 26 }
-        ensures { result ≡ slot_code board letter }
-    {
-        Code {
-            first: b'a' + board as u8,
-            second: Some(letter),
-        }
-    }
 }
 
 impl Value {

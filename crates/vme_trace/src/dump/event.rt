@@ -2,12 +2,14 @@
 ghost use Rattle.std.specs.Prelude.{◌≡◌, ◌≤◌, ◌++◌, OnOk, flat_map};
 ghost use Rattle.std.specs.List.{range_with_len};
 ghost use Rattle.vme_trace.specs.Slots.{slot_changes};
-ghost use Rattle.vme_trace.specs.Events.{request_code, grant_slot, grant_level, is_alone, name_changes, holder_changes, request_line_changes, bus_changes, event_changes};
+ghost use Rattle.vme_trace.specs.Events.{grant_slot, grant_level, is_alone, name_changes, holder_changes, request_line_changes, bus_changes, event_changes};
 
 use crate::dump::bus::push_some_handshake;
-use crate::dump::change::{Change, Code, Value, push_if};
+use crate::dump::change::{Change, Value, push_if};
+use crate::dump::edge::{BEGIN, BUSY_FALLS, REQUEST_RISES};
 use crate::dump::handshake::{first_handshake, second_handshake};
 use crate::dump::slot::{grant_edge, push_slot, release_edge, releases, requests};
+use crate::dump::variable::Variable;
 use crate::observation::{Grant, Observation};
 use std::alloc::AllocError;
 
@@ -69,8 +71,8 @@ fn push_names(changes: &mut Vec<Change>, n: u32, event: &Observation) -> Result<
         width: 5,
         number: u32::from(event.slot),
     };
-    push_if(changes, true, 0, Code::bus(b'A'), number)?;
-    push_if(changes, true, 0, Code::bus(b'B'), slot)
+    push_if(changes, true, BEGIN, Variable::EventNumber.code(), number)?;
+    push_if(changes, true, BEGIN, Variable::EventSlot.code(), slot)
 }
 
 /// The slot that holds the bus, and BBSY*.
@@ -78,10 +80,10 @@ fn push_names(changes: &mut Vec<Change>, n: u32, event: &Observation) -> Result<
 fn push_holder(changes: &mut Vec<Change>, event: &Observation) -> Result<(), AllocError>
     ensures { OnOk result (changes.new.items ≡ changes.old.items ++ holder_changes event.now) }
 {
-    let (holder, busy) = (Code::bus(b'C'), Code::bus(b'D'));
+    let (holder, busy) = (Variable::Holder.code(), Variable::BusBusy.code());
     let frees = releases(&event.activity);
     let released = release_edge(&event.activity);
-    let granted = grant_edge(&event.activity) + 1;
+    let granted = grant_edge(&event.activity) + BUSY_FALLS;
     let slot = Value::Number {
         width: 5,
         number: grant_slot(event.grant),
@@ -97,18 +99,11 @@ fn push_holder(changes: &mut Vec<Change>, event: &Observation) -> Result<(), All
 fn push_request_lines(changes: &mut Vec<Change>, event: &Observation) -> Result<(), AllocError>
     ensures { OnOk result (changes.new.items ≡ changes.old.items ++ request_line_changes event.now) }
 {
-    let asked = request_code(event.level);
-    let granted = request_code(grant_level(event.grant));
-    let edge = grant_edge(&event.activity) + 2;
-    push_if(changes, requests(&event.activity), 0, asked, Value::Low)?;
+    let asked = Variable::BusRequest(event.level).code();
+    let granted = Variable::BusRequest(grant_level(event.grant)).code();
+    let edge = grant_edge(&event.activity) + REQUEST_RISES;
+    push_if(changes, requests(&event.activity), BEGIN, asked, Value::Low)?;
     push_if(changes, is_alone(event.grant), edge, granted, Value::High)
-}
-
-/// The code of the bus request line of a level.
-fn request_code(level: u8) -> Code
-    ensures { result ≡ request_code level }
-{
-    Code::bus(b'H'.saturating_sub(level))
 }
 
 /// The slot that the bus is granted to.

@@ -2,6 +2,7 @@
 ghost use Rattle.std.specs.Prelude.{◌≡◌, ◌≤◌};
 ghost use Rattle.vme_trace.specs.Handshakes.{edge_of, carries_byte, is_data_len, answered, write_half, half_of, lines_after, is_berr, has_address_phase, unanswered_handshake, ending_handshake, first_of_datum, second_of_datum, first_handshake, second_handshake};
 
+use crate::dump::edge::{FIRST, SECOND};
 use crate::observation::{Activity, TransferredDatum};
 use vme_core::EventReply;
 use vme_cycle::{Modify, Signals};
@@ -11,7 +12,7 @@ use vme_memory::Reply;
 /// A handshake of a datum.
 #[derive(Clone, Copy, Debug, PartialEq, Eq)]
 pub struct Handshake {
-    /// Whether it begins at edge 10 of the event, and not at edge 1.
+    /// Whether it is the second of its event.
     pub late: bool,
     /// What the lines show.
     pub lines: Signals,
@@ -35,7 +36,11 @@ impl Handshake {
         requires { after ≤ 9 }
         ensures { result ≡ edge_of self.now after }
     {
-        if self.late { 10 + after } else { 1 + after }
+        if self.late {
+            SECOND + after
+        } else {
+            FIRST + after
+        }
     }
 }
 

@@ -1,10 +1,11 @@
 //! The header: the variables, and their values before the first event.
 ghost use Rattle.std.specs.Prelude.{◌≡◌, ◌<◌, ◌++◌, OnOk, flat_map, length};
 ghost use Rattle.std.specs.List.{range_with_len};
-ghost use Rattle.vme_trace.specs.Headers.{start_text, arbitration_text, address_text, data_text, bus_scope_text, first_arbitration_text, first_address_text, first_data_text, first_bus_text, middle_text, master_names, port_names, scope_name, scope_text, variable_code, variable_name, variable_text, first_text, first_slot_text, first_port_text, slot_scope, header_text};
+ghost use Rattle.vme_trace.specs.Variables.{board_of};
+ghost use Rattle.vme_trace.specs.Headers.{start_text, arbitration_text, address_text, data_text, bus_scope_text, first_arbitration_text, first_address_text, first_data_text, first_bus_text, middle_text, master_names, port_names, scope_name, scope_text, declaration, variable_code, variable_name, variable_text, first_text, first_slot_text, first_port_text, slot_scope, header_text};
 
-use crate::dump::change::Code;
 use crate::dump::print::print_code;
+use crate::dump::variable::Variable;
 use std::alloc::AllocError;
 use vme_grammar::print_number;
 use vme_script::Config;
@@ -83,11 +84,23 @@ fn print_master_names(text: &mut Vec<u8>, board: usize, slot: u16) -> Result<(),
     requires { board < 26 }
     ensures { OnOk result (text.new.items ≡ text.old.items ++ master_names board slot) }
 {
-    print_variable(text, b"integer 32", board, b'a', slot, b"line")?;
-    print_variable(text, b"wire 1", board, b'b', slot, b"br_n")?;
-    print_variable(text, b"wire 4", board, b'c', slot, b"bgin_n [3:0]")?;
-    print_variable(text, b"wire 1", board, b'd', slot, b"bbsy_n")?;
-    print_variable(text, b"wire 1", board, b'e', slot, b"sel")
+    print_variable(
+        text,
+        b"integer 32",
+        Variable::CurrentLine(board),
+        slot,
+        b"line",
+    )?;
+    print_variable(text, b"wire 1", Variable::RequestLine(board), slot, b"br_n")?;
+    print_variable(
+        text,
+        b"wire 4",
+        Variable::GrantLines(board),
+        slot,
+        b"bgin_n [3:0]",
+    )?;
+    print_variable(text, b"wire 1", Variable::BusyLine(board), slot, b"bbsy_n")?;
+    print_variable(text, b"wire 1", Variable::Selected(board), slot, b"sel")
 }
 
 /// Appends the variables of the local port of a board.
@@ -96,12 +109,24 @@ fn print_port_names(text: &mut Vec<u8>, board: usize, slot: u16) -> Result<(), A
     requires { board < 26 }
     ensures { OnOk result (text.new.items ≡ text.old.items ++ port_names board slot) }
 {
-    print_variable(text, b"wire 1", board, b'f', slot, b"lp_cs")?;
-    print_variable(text, b"wire 1", board, b'g', slot, b"lp_we")?;
-    print_variable(text, b"wire 32", board, b'h', slot, b"lp_a [31:0]")?;
-    print_variable(text, b"wire 32", board, b'i', slot, b"lp_d [31:0]")?;
-    print_variable(text, b"wire 1", board, b'j', slot, b"lp_ack")?;
-    print_variable(text, b"wire 1", board, b'k', slot, b"lp_err")
+    print_variable(text, b"wire 1", Variable::PortSelect(board), slot, b"lp_cs")?;
+    print_variable(text, b"wire 1", Variable::PortWrite(board), slot, b"lp_we")?;
+    print_variable(
+        text,
+        b"wire 32",
+        Variable::PortOffset(board),
+        slot,
+        b"lp_a [31:0]",
+    )?;
+    print_variable(
+        text,
+        b"wire 32",
+        Variable::PortData(board),
+        slot,
+        b"lp_d [31:0]",
+    )?;
+    print_variable(text, b"wire 1", Variable::PortDone(board), slot, b"lp_ack")?;
+    print_variable(text, b"wire 1", Variable::PortError(board), slot, b"lp_err")
 }
 
 /// Appends a variable of a slot.
@@ -109,35 +134,50 @@ fn print_port_names(text: &mut Vec<u8>, board: usize, slot: u16) -> Result<(), A
 fn print_variable(
     text: &mut Vec<u8>,
     kind: &[u8],
-    board: usize,
-    letter: u8,
+    variable: Variable,
     slot: u16,
     name: &[u8],
 ) -> Result<(), AllocError>
-    requires { board < 26 }
+    requires { board_of variable < 26 }
     ensures { OnOk result
-        (text.new.items ≡ text.old.items ++ variable_text kind.now board letter slot name.now) }
+        (text.new.items ≡ text.old.items ++ variable_text kind.now variable slot name.now) }
 {
-    print_variable_code(text, kind, board, letter)?;
+    print_variable_code(text, kind, variable)?;
     print_variable_name(text, slot, name)
 }
 
-/// Appends the kind and size of a variable of a slot, and its code.
+/// Appends a variable of the bus.
+#[tactic(auto, unfolding(crate::specs::Headers::declaration))]
+fn print_declaration(
+    text: &mut Vec<u8>,
+    kind: &[u8],
+    variable: Variable,
+    name: &[u8],
+) -> Result<(), AllocError>
+    requires { board_of variable < 26 }
+    ensures { OnOk result
+        (text.new.items ≡ text.old.items ++ declaration kind.now variable name.now) }
+{
+    print_variable_code(text, kind, variable)?;
+    text.extend_from_slice(b" ")?;
+    text.extend_from_slice(name)?;
+    text.extend_from_slice(b" $end\n")
+}
+
+/// Appends the kind and size of a variable, and its code.
 #[tactic(auto, unfolding(crate::specs::Headers::variable_code))]
 fn print_variable_code(
     text: &mut Vec<u8>,
     kind: &[u8],
-    board: usize,
-    letter: u8,
+    variable: Variable,
 ) -> Result<(), AllocError>
-    requires { board < 26 }
-    ensures { OnOk result
-        (text.new.items ≡ text.old.items ++ variable_code kind.now board letter) }
+    requires { board_of variable < 26 }
+    ensures { OnOk result (text.new.items ≡ text.old.items ++ variable_code kind.now variable) }
 {
     text.extend_from_slice(b"$var ")?;
     text.extend_from_slice(kind)?;
     text.extend_from_slice(b" ")?;
-    print_code(text, Code::slot(board, letter))
+    print_code(text, variable.code())
 }
 
 /// Appends the name of a variable of a slot, which has the slot's number.
@@ -169,11 +209,11 @@ fn print_first_slot(text: &mut Vec<u8>, board: usize) -> Result<(), AllocError>
     requires { board < 26 }
     ensures { OnOk result (text.new.items ≡ text.old.items ++ first_slot_text board) }
 {
-    print_first(text, b"bz ", board, b'a')?;
-    print_first(text, b"1", board, b'b')?;
-    print_first(text, b"b1111 ", board, b'c')?;
-    print_first(text, b"1", board, b'd')?;
-    print_first(text, b"0", board, b'e')?;
+    print_first(text, b"bz ", Variable::CurrentLine(board))?;
+    print_first(text, b"1", Variable::RequestLine(board))?;
+    print_first(text, b"b1111 ", Variable::GrantLines(board))?;
+    print_first(text, b"1", Variable::BusyLine(board))?;
+    print_first(text, b"0", Variable::Selected(board))?;
     print_first_port(text, board)
 }
 
@@ -183,22 +223,22 @@ fn print_first_port(text: &mut Vec<u8>, board: usize) -> Result<(), AllocError>
     requires { board < 26 }
     ensures { OnOk result (text.new.items ≡ text.old.items ++ first_port_text board) }
 {
-    print_first(text, b"0", board, b'f')?;
-    print_first(text, b"z", board, b'g')?;
-    print_first(text, b"bz ", board, b'h')?;
-    print_first(text, b"bz ", board, b'i')?;
-    print_first(text, b"0", board, b'j')?;
-    print_first(text, b"0", board, b'k')
+    print_first(text, b"0", Variable::PortSelect(board))?;
+    print_first(text, b"z", Variable::PortWrite(board))?;
+    print_first(text, b"bz ", Variable::PortOffset(board))?;
+    print_first(text, b"bz ", Variable::PortData(board))?;
+    print_first(text, b"0", Variable::PortDone(board))?;
+    print_first(text, b"0", Variable::PortError(board))
 }
 
-/// Appends the value of a variable of a slot.
+/// Appends the value of a variable.
 #[tactic(auto, unfolding(crate::specs::Headers::first_text))]
-fn print_first(text: &mut Vec<u8>, value: &[u8], board: usize, letter: u8) -> Result<(), AllocError>
-    requires { board < 26 }
-    ensures { OnOk result (text.new.items ≡ text.old.items ++ first_text value.now board letter) }
+fn print_first(text: &mut Vec<u8>, value: &[u8], variable: Variable) -> Result<(), AllocError>
+    requires { board_of variable < 26 }
+    ensures { OnOk result (text.new.items ≡ text.old.items ++ first_text value.now variable) }
 {
     text.extend_from_slice(value)?;
-    print_code(text, Code::slot(board, letter))?;
+    print_code(text, variable.code())?;
     text.extend_from_slice(b"\n")
 }
 
@@ -221,14 +261,14 @@ fn print_start(text: &mut Vec<u8>) -> Result<(), AllocError>
 fn print_arbitration(text: &mut Vec<u8>) -> Result<(), AllocError>
     ensures { OnOk result (text.new.items ≡ text.old.items ++ arbitration_text) }
 {
-    text.extend_from_slice(b"$var integer 32 A event $end\n")?;
-    text.extend_from_slice(b"$var integer 32 B slot $end\n")?;
-    text.extend_from_slice(b"$var integer 32 C holder $end\n")?;
-    text.extend_from_slice(b"$var wire 1 D bbsy_n $end\n")?;
-    text.extend_from_slice(b"$var wire 1 E br3_n $end\n")?;
-    text.extend_from_slice(b"$var wire 1 F br2_n $end\n")?;
-    text.extend_from_slice(b"$var wire 1 G br1_n $end\n")?;
-    text.extend_from_slice(b"$var wire 1 H br0_n $end\n")
+    print_declaration(text, b"integer 32", Variable::EventNumber, b"event")?;
+    print_declaration(text, b"integer 32", Variable::EventSlot, b"slot")?;
+    print_declaration(text, b"integer 32", Variable::Holder, b"holder")?;
+    print_declaration(text, b"wire 1", Variable::BusBusy, b"bbsy_n")?;
+    print_declaration(text, b"wire 1", Variable::BusRequest(3), b"br3_n")?;
+    print_declaration(text, b"wire 1", Variable::BusRequest(2), b"br2_n")?;
+    print_declaration(text, b"wire 1", Variable::BusRequest(1), b"br1_n")?;
+    print_declaration(text, b"wire 1", Variable::BusRequest(0), b"br0_n")
 }
 
 /// The address strobe, the address modifier, the address lines, LWORD* and WRITE*.
@@ -236,14 +276,12 @@ fn print_arbitration(text: &mut Vec<u8>) -> Result<(), AllocError>
 fn print_address(text: &mut Vec<u8>) -> Result<(), AllocError>
     ensures { OnOk result (text.new.items ≡ text.old.items ++ address_text) }
 {
-    text.extend_from_slice(
-        b"$var wire 1 I as_n $end\n\
-          $var wire 6 J am [5:0] $end\n\
-          $var wire 32 K a [31:0] $end\n\
-          $var wire 1 L a01 $end\n\
-          $var wire 1 M lword_n $end\n\
-          $var wire 1 N write_n $end\n",
-    )
+    print_declaration(text, b"wire 1", Variable::AddressStrobe, b"as_n")?;
+    print_declaration(text, b"wire 6", Variable::AddressModifier, b"am [5:0]")?;
+    print_declaration(text, b"wire 32", Variable::AddressLines, b"a [31:0]")?;
+    print_declaration(text, b"wire 1", Variable::FirstAddressLine, b"a01")?;
+    print_declaration(text, b"wire 1", Variable::LongWord, b"lword_n")?;
+    print_declaration(text, b"wire 1", Variable::WriteLine, b"write_n")
 }
 
 /// The data strobes, the data lines, DTACK* and BERR*.
@@ -251,14 +289,12 @@ fn print_address(text: &mut Vec<u8>) -> Result<(), AllocError>
 fn print_data(text: &mut Vec<u8>) -> Result<(), AllocError>
     ensures { OnOk result (text.new.items ≡ text.old.items ++ data_text) }
 {
-    text.extend_from_slice(
-        b"$var wire 1 O ds1_n $end\n\
-          $var wire 1 P ds0_n $end\n\
-          $var wire 32 Q d [31:0] $end\n\
-          $var wire 32 R dh [63:32] $end\n\
-          $var wire 1 S dtack_n $end\n\
-          $var wire 1 T berr_n $end\n",
-    )
+    print_declaration(text, b"wire 1", Variable::FirstStrobe, b"ds1_n")?;
+    print_declaration(text, b"wire 1", Variable::SecondStrobe, b"ds0_n")?;
+    print_declaration(text, b"wire 32", Variable::DataLines, b"d [31:0]")?;
+    print_declaration(text, b"wire 32", Variable::UpperDataLines, b"dh [63:32]")?;
+    print_declaration(text, b"wire 1", Variable::Acknowledge, b"dtack_n")?;
+    print_declaration(text, b"wire 1", Variable::BusError, b"berr_n")
 }
 
 /// The values of the event and of the lines of arbitration.
@@ -266,14 +302,14 @@ fn print_data(text: &mut Vec<u8>) -> Result<(), AllocError>
 fn print_first_arbitration(text: &mut Vec<u8>) -> Result<(), AllocError>
     ensures { OnOk result (text.new.items ≡ text.old.items ++ first_arbitration_text) }
 {
-    text.extend_from_slice(b"b0 A\n")?;
-    text.extend_from_slice(b"bz B\n")?;
-    text.extend_from_slice(b"bz C\n")?;
-    text.extend_from_slice(b"1D\n")?;
-    text.extend_from_slice(b"1E\n")?;
-    text.extend_from_slice(b"1F\n")?;
-    text.extend_from_slice(b"1G\n")?;
-    text.extend_from_slice(b"1H\n")
+    print_first(text, b"b0 ", Variable::EventNumber)?;
+    print_first(text, b"bz ", Variable::EventSlot)?;
+    print_first(text, b"bz ", Variable::Holder)?;
+    print_first(text, b"1", Variable::BusBusy)?;
+    print_first(text, b"1", Variable::BusRequest(3))?;
+    print_first(text, b"1", Variable::BusRequest(2))?;
+    print_first(text, b"1", Variable::BusRequest(1))?;
+    print_first(text, b"1", Variable::BusRequest(0))
 }
 
 /// The values of the lines of addressing.
@@ -281,12 +317,12 @@ fn print_first_arbitration(text: &mut Vec<u8>) -> Result<(), AllocError>
 fn print_first_address(text: &mut Vec<u8>) -> Result<(), AllocError>
     ensures { OnOk result (text.new.items ≡ text.old.items ++ first_address_text) }
 {
-    text.extend_from_slice(b"1I\n")?;
-    text.extend_from_slice(b"bz J\n")?;
-    text.extend_from_slice(b"bz K\n")?;
-    text.extend_from_slice(b"zL\n")?;
-    text.extend_from_slice(b"zM\n")?;
-    text.extend_from_slice(b"zN\n")
+    print_first(text, b"1", Variable::AddressStrobe)?;
+    print_first(text, b"bz ", Variable::AddressModifier)?;
+    print_first(text, b"bz ", Variable::AddressLines)?;
+    print_first(text, b"z", Variable::FirstAddressLine)?;
+    print_first(text, b"z", Variable::LongWord)?;
+    print_first(text, b"z", Variable::WriteLine)
 }
 
 /// The values of the strobes, the data lines and the replies.
@@ -294,12 +330,12 @@ fn print_first_address(text: &mut Vec<u8>) -> Result<(), AllocError>
 fn print_first_data(text: &mut Vec<u8>) -> Result<(), AllocError>
     ensures { OnOk result (text.new.items ≡ text.old.items ++ first_data_text) }
 {
-    text.extend_from_slice(b"1O\n")?;
-    text.extend_from_slice(b"1P\n")?;
-    text.extend_from_slice(b"bz Q\n")?;
-    text.extend_from_slice(b"bz R\n")?;
-    text.extend_from_slice(b"1S\n")?;
-    text.extend_from_slice(b"1T\n")
+    print_first(text, b"1", Variable::FirstStrobe)?;
+    print_first(text, b"1", Variable::SecondStrobe)?;
+    print_first(text, b"bz ", Variable::DataLines)?;
+    print_first(text, b"bz ", Variable::UpperDataLines)?;
+    print_first(text, b"1", Variable::Acknowledge)?;
+    print_first(text, b"1", Variable::BusError)
 }
 
 /// From the scopes to the values.

@@ -3,7 +3,12 @@ ghost use Rattle.std.specs.Prelude.{◌≡◌, ◌<◌, ◌≤◌, ◌++◌, OnO
 ghost use Rattle.vme_trace.specs.Ports.{port_lanes, new_lanes, reply_lanes, port_access, last_edge, port_changes, control_changes, select_changes, bytes_changes, lanes_if, reply_changes};
 
 use crate::dump::change::{Change, Code, Value, push_if};
+use crate::dump::edge::{
+    ADDRESS_RELEASED, ANSWER_FALLS, ANSWER_RISES, BEGIN, BOARD_DRIVES, DATA_RELEASED, FIRST,
+    SECOND, STROBES_RISE,
+};
 use crate::dump::handshake::is_berr;
+use crate::dump::variable::Variable;
 use std::alloc::AllocError;
 use vme_cycle::Modify;
 use vme_lanes::Datum;
@@ -99,9 +104,9 @@ fn last_edge(access: &PortAccess, after: u8) -> u8
     ensures { result ≡ last_edge access.now after }
 {
     if access.new.is_some() {
-        10 + after
+        SECOND + after
     } else {
-        1 + after
+        FIRST + after
     }
 }
 
@@ -115,9 +120,15 @@ fn push_select(
     requires { board < 26 }
     ensures { OnOk result (changes.new.items ≡ changes.old.items ++ select_changes board access.now) }
 {
-    let code = Code::slot(board, b'f');
-    push_if(changes, true, 1, code, Value::High)?;
-    push_if(changes, true, last_edge(access, 6), code, Value::Low)
+    let code = Variable::PortSelect(board).code();
+    push_if(changes, true, FIRST, code, Value::High)?;
+    push_if(
+        changes,
+        true,
+        last_edge(access, STROBES_RISE),
+        code,
+        Value::Low,
+    )
 }
 
 /// The write line and the offset.
@@ -130,19 +141,28 @@ fn push_control(
     requires { board < 26 }
     ensures { OnOk result (changes.new.items ≡ changes.old.items ++ control_changes board access.now) }
 {
-    let (write, address) = (Code::slot(board, b'g'), Code::slot(board, b'h'));
+    let (write, address) = (
+        Variable::PortWrite(board).code(),
+        Variable::PortOffset(board).code(),
+    );
     let offset = Value::Number {
         width: 32,
         number: access.offset,
     };
-    push_if(changes, true, 0, write, Value::level(access.write))?;
-    push_if(changes, access.new.is_some(), 10, write, Value::High)?;
-    push_if(changes, true, last_edge(access, 9), write, Value::Free)?;
-    push_if(changes, true, 0, address, offset)?;
+    push_if(changes, true, BEGIN, write, Value::level(access.write))?;
+    push_if(changes, access.new.is_some(), SECOND, write, Value::High)?;
     push_if(
         changes,
         true,
-        last_edge(access, 9),
+        last_edge(access, ADDRESS_RELEASED),
+        write,
+        Value::Free,
+    )?;
+    push_if(changes, true, BEGIN, address, offset)?;
+    push_if(
+        changes,
+        true,
+        last_edge(access, ADDRESS_RELEASED),
         address,
         Value::Released,
     )
@@ -158,12 +178,23 @@ fn push_bytes(
     requires { board < 26 }
     ensures { OnOk result (changes.new.items ≡ changes.old.items ++ bytes_changes board access.now) }
 {
-    let code = Code::slot(board, b'i');
-    let drive = if access.write { 1 } else { 3 };
+    let code = Variable::PortData(board).code();
+    let drive = if access.write {
+        FIRST
+    } else {
+        FIRST + BOARD_DRIVES
+    };
     push_lanes(changes, access.bytes, drive, code)?;
-    push_if(changes, access.bytes.is_some(), 8, code, Value::Released)?;
-    push_lanes(changes, access.new, 10, code)?;
-    push_if(changes, access.new.is_some(), 17, code, Value::Released)
+    let (released, end) = (FIRST + DATA_RELEASED, SECOND + DATA_RELEASED);
+    push_if(
+        changes,
+        access.bytes.is_some(),
+        released,
+        code,
+        Value::Released,
+    )?;
+    push_lanes(changes, access.new, SECOND, code)?;
+    push_if(changes, access.new.is_some(), end, code, Value::Released)
 }
 
 /// Appends the change of lanes, if some carry bytes.
@@ -191,11 +222,16 @@ fn push_reply(
     requires { board < 26 }
     ensures { OnOk result (changes.new.items ≡ changes.old.items ++ reply_changes board access.now) }
 {
-    let (done, error) = (Code::slot(board, b'j'), Code::slot(board, b'k'));
-    push_if(changes, !access.berr, 4, done, Value::High)?;
-    push_if(changes, !access.berr, 9, done, Value::Low)?;
-    push_if(changes, access.new.is_some(), 13, done, Value::High)?;
-    push_if(changes, access.new.is_some(), 18, done, Value::Low)?;
-    push_if(changes, access.berr, 4, error, Value::High)?;
-    push_if(changes, access.berr, 9, error, Value::Low)
+    let (done, error) = (
+        Variable::PortDone(board).code(),
+        Variable::PortError(board).code(),
+    );
+    let (first, first_end) = (FIRST + ANSWER_FALLS, FIRST + ANSWER_RISES);
+    let (second, second_end) = (SECOND + ANSWER_FALLS, SECOND + ANSWER_RISES);
+    push_if(changes, !access.berr, first, done, Value::High)?;
+    push_if(changes, !access.berr, first_end, done, Value::Low)?;
+    push_if(changes, access.new.is_some(), second, done, Value::High)?;
+    push_if(changes, access.new.is_some(), second_end, done, Value::Low)?;
+    push_if(changes, access.berr, first, error, Value::High)?;
+    push_if(changes, access.berr, first_end, error, Value::Low)
 }

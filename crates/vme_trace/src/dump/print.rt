@@ -4,11 +4,9 @@ ghost use Rattle.std.specs.List.{list_any};
 ghost use Rattle.vme_trace.specs.Changes.{binary, lane_digits, code_text, value_text, text_at, time_text, edge_text, event_text, end_text};
 
 use crate::dump::change::{Change, Code, Value};
+use crate::dump::edge::EDGES;
 use std::alloc::AllocError;
 use vme_grammar::print_number;
-
-/// The number of edges of an event.
-const EDGES: u8 = 20;
 
 /// Appends the text of event `n`, whose changes these are.
 #[tactic(auto, unfolding(crate::specs::Changes::event_text))]

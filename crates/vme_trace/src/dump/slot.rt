@@ -2,9 +2,13 @@
 ghost use Rattle.std.specs.Prelude.{◌≡◌, ◌<◌, ◌≤◌, ◌++◌, OnOk};
 ghost use Rattle.vme_trace.specs.Slots.{release_edge, grant_edge, is_granted, passes_grant, selects, opens, ends_with, grant_lines, end_edge, has_ended, requests, releases, line_changes, request_changes, chain_changes, busy_changes, select_changes, local_changes, access_changes, own_port_changes, slot_changes};
 
-use crate::dump::change::{Change, Code, Value, push_if};
+use crate::dump::change::{Change, Value, push_if};
+use crate::dump::edge::{
+    BEGIN, BUSY_FALLS, END, FIRST, GRANT, GRANT_ENDS, RELEASE, REQUEST_RISES, SECOND, STROBES_RISE,
+};
 use crate::dump::handshake::{Handshake, first_handshake, second_handshake};
 use crate::dump::port::{PortAccess, port_access, push_port};
+use crate::dump::variable::Variable;
 use crate::observation::{Activity, Grant, Observation};
 use std::alloc::AllocError;
 use vme_core::EventReply;
@@ -33,14 +37,14 @@ fn push_line(changes: &mut Vec<Change>, board: usize, event: &Observation) -> Re
     requires { board < 26 }
     ensures { OnOk result (changes.new.items ≡ changes.old.items ++ line_changes event.now board) }
 {
-    let code = Code::slot(board, b'a');
+    let code = Variable::CurrentLine(board).code();
     let own = event.board == board;
     let line = Value::Number {
         width: 10,
         number: u32::from(event.line),
     };
-    push_if(changes, own, 0, code, line)?;
-    push_if(changes, own && event.ended, 19, code, Value::Released)
+    push_if(changes, own, BEGIN, code, line)?;
+    push_if(changes, own && event.ended, END, code, Value::Released)
 }
 
 /// The bus request line that the slot drives.
@@ -53,14 +57,14 @@ fn push_request(
     requires { board < 26 }
     ensures { OnOk result (changes.new.items ≡ changes.old.items ++ request_changes event.now board) }
 {
-    let code = Code::slot(board, b'b');
+    let code = Variable::RequestLine(board).code();
     let asks = event.board == board && requests(&event.activity);
-    push_if(changes, asks, 0, code, Value::Low)?;
+    push_if(changes, asks, BEGIN, code, Value::Low)?;
     let edge = grant_edge(&event.activity);
     push_if(
         changes,
         is_granted(event.grant, board),
-        edge + 2,
+        edge + REQUEST_RISES,
         code,
         Value::High,
     )
@@ -76,7 +80,7 @@ fn push_chain(
     requires { board < 26 }
     ensures { OnOk result (changes.new.items ≡ changes.old.items ++ chain_changes event.now board) }
 {
-    let code = Code::slot(board, b'c');
+    let code = Variable::GrantLines(board).code();
     let edge = grant_edge(&event.activity);
     let passes = passes_grant(event.grant, board);
     let low = Value::Number {
@@ -88,7 +92,7 @@ fn push_chain(
         number: 15,
     };
     push_if(changes, passes, edge, code, low)?;
-    push_if(changes, passes, edge + 3, code, high)
+    push_if(changes, passes, edge + GRANT_ENDS, code, high)
 }
 
 /// BBSY*, as the slot drives it.
@@ -97,7 +101,7 @@ fn push_busy(changes: &mut Vec<Change>, board: usize, event: &Observation) -> Re
     requires { board < 26 }
     ensures { OnOk result (changes.new.items ≡ changes.old.items ++ busy_changes event.now board) }
 {
-    let code = Code::slot(board, b'd');
+    let code = Variable::BusyLine(board).code();
     let frees = event.board == board && releases(&event.activity);
     push_if(
         changes,
@@ -110,7 +114,7 @@ fn push_busy(changes: &mut Vec<Change>, board: usize, event: &Observation) -> Re
     push_if(
         changes,
         is_granted(event.grant, board),
-        edge + 1,
+        edge + BUSY_FALLS,
         code,
         Value::Low,
     )
@@ -126,11 +130,11 @@ fn push_select(
     requires { board < 26 }
     ensures { OnOk result (changes.new.items ≡ changes.old.items ++ select_changes event.now board) }
 {
-    let code = Code::slot(board, b'e');
+    let code = Variable::Selected(board).code();
     let own = selects(&event.activity, board);
     let begins = own && opens(&event.activity);
     let ends = own && has_ended(event);
-    push_if(changes, begins, 1, code, Value::High)?;
+    push_if(changes, begins, FIRST, code, Value::High)?;
     push_if(changes, ends, end_edge(event), code, Value::Low)
 }
 
@@ -204,8 +208,8 @@ pub(crate) fn release_edge(activity: &Activity) -> u8
     ensures within { result ≤ 12 }
 {
     match activity {
-        Activity::Releases(Some(_)) => 12,
-        _ => 0,
+        Activity::Releases(Some(_)) => RELEASE,
+        _ => BEGIN,
     }
 }
 
@@ -214,7 +218,7 @@ pub(crate) fn grant_edge(activity: &Activity) -> u8
     ensures value { result ≡ grant_edge activity.now }
     ensures within { result ≤ 13 }
 {
-    release_edge(activity) + 1
+    release_edge(activity) + GRANT
 }
 
 /// Whether the bus is granted to a board's slot.
@@ -286,9 +290,9 @@ fn end_edge(event: &Observation) -> u8
     ensures { result ≡ end_edge event.now }
 {
     if second_handshake(&event.activity, &event.reply).is_some() {
-        16
+        SECOND + STROBES_RISE
     } else {
-        7
+        FIRST + STROBES_RISE
     }
 }
 

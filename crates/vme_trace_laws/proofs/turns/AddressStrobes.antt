@@ -16,12 +16,13 @@ use Rattle.vme_trace.specs.declared.dump.change.Code.{Code}
 use Rattle.vme_trace.specs.declared.dump.change.Value.{Value}
 use Rattle.vme_trace.specs.declared.dump.change.Value.TheVariants.{Low, High}
 use Rattle.vme_trace.specs.declared.dump.handshake.Handshake.{Handshake}
-use Rattle.vme_trace.specs.Changes.{bus_code}
+use Rattle.vme_trace.specs.Variables.{bus_code}
 use Rattle.vme_trace.specs.Handshakes.{edge_of, half_of, half_handshake, has_address_phase, first_of_datum, second_of_datum, first_handshake, second_handshake}
 use Rattle.vme_trace.specs.Bus.{some_handshake_changes}
 use Rattle.vme_trace.specs.Slots.{ends_with, has_ended, end_edge, slot_changes}
 use Rattle.vme_trace.specs.Events.{name_changes, holder_changes, request_line_changes, bus_changes, event_changes}
-use Rattle.vme_trace_laws.specs.Shown.{is_code, value_after, value_at, address_strobe}
+use Rattle.vme_trace_laws.specs.Shown.{address_strobe}
+use Rattle.vme_trace.specs.Shown.{is_code, value_after, value_at}
 use Rattle.vme_trace_laws.proofs.waves.Afters.{silent, after_append}
 use Rattle.vme_trace_laws.proofs.waves.Pulses.{pulse}
 use Rattle.vme_trace_laws.proofs.waves.Groups.{address_strobe_after}

@@ -23,7 +23,8 @@ use Rattle.vme_trace_laws.proofs.waves.Pulses.{not_both}
 use Rattle.vme_trace_laws.proofs.waves.Values.{pulse_at}
 use Rattle.vme_trace_laws.proofs.waves.Slots.{busy_at}
 use Rattle.vme_trace_laws.specs.Transfers.{open_transfer, transfer_board}
-use Rattle.vme_trace_laws.specs.Values.{busy_line, value_after_run, value_in_run}
+use Rattle.vme_trace_laws.specs.Values.{busy_line}
+use Rattle.vme_trace.specs.Shown.{value_after_run, value_in_run}
 use Rattle.vme_trace_laws.proofs.turns.Busy.{run_busy}
 use Rattle.vme_trace_laws.proofs.turns.AddressStrobes.{opens_with, strobe_at}
 use Rattle.vme_trace_laws.proofs.turns.RunStrobes.{strobe_of, at_event, before_event, none_stays}

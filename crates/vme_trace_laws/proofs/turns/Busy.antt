@@ -29,12 +29,12 @@ use Rattle.vme_trace.specs.declared.dump.change.Value.TheVariants.{Low, High}
 use Rattle.vme_trace.specs.Changes.{level_of}
 use Rattle.vme_trace.specs.Events.{event_changes}
 use Rattle.vme_trace.specs.Slots.{releases, release_edge, grant_edge, is_granted}
-use Rattle.vme_trace_laws.specs.Shown.{value_at}
+use Rattle.vme_trace.specs.Shown.{value_at, after_event, after_events, value_after_run, value_in_run}
 use Rattle.vme_trace_laws.proofs.waves.Pulses.{not_both}
 use Rattle.vme_trace_laws.proofs.waves.Values.{pulse_late, pulse_early}
 use Rattle.vme_trace_laws.proofs.waves.Slots.{busy_at}
 use Rattle.vme_trace_laws.specs.Steps.{IsShownAs, IsStepShown, IsRunShown}
-use Rattle.vme_trace_laws.specs.Values.{busy_line, after_event, after_events, value_after_run, value_in_run}
+use Rattle.vme_trace_laws.specs.Values.{busy_line}
 use Rattle.vme_trace_laws.proofs.turns.Places.{same_board, holder_granted}
 use Rattle.vme_trace_laws.proofs.turns.Runs.{run_shown}
 

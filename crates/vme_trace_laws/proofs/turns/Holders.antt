@@ -31,7 +31,8 @@ use Rattle.vme_trace.specs.Events.{grant_slot}
 use Rattle.vme_trace_laws.proofs.waves.Values.{pulse_late}
 use Rattle.vme_trace_laws.proofs.waves.Arbitration.{holder_at, bus_busy_at}
 use Rattle.vme_trace_laws.specs.Steps.{IsShownAs, IsStepShown, IsRunShown}
-use Rattle.vme_trace_laws.specs.Values.{holder_shown, holder_line, bus_busy_line, after_events, value_after_run}
+use Rattle.vme_trace_laws.specs.Values.{holder_shown, holder_line, bus_busy_line}
+use Rattle.vme_trace.specs.Shown.{after_events, value_after_run}
 use Rattle.vme_trace_laws.proofs.turns.Places.{own_board}
 use Rattle.vme_trace_laws.proofs.turns.Busy.{board_bus, release_within, edge_within}
 use Rattle.vme_trace_laws.proofs.turns.Numbers.{has_levels}

@@ -23,7 +23,8 @@ use Rattle.vme_trace.specs.declared.dump.change.Value.TheVariants.{Number}
 use Rattle.vme_trace.specs.Events.{grant_level}
 use Rattle.vme_trace_laws.proofs.waves.Arbitration.{HasLevels, number_at}
 use Rattle.vme_trace_laws.specs.Steps.{IsStepShown, IsRunShown}
-use Rattle.vme_trace_laws.specs.Values.{event_number, after_events, value_after_run}
+use Rattle.vme_trace_laws.specs.Values.{event_number}
+use Rattle.vme_trace.specs.Shown.{after_events, value_after_run}
 use Rattle.vme_trace_laws.proofs.turns.Runs.{run_shown}
 
 -- the levels of lawful boards

@@ -3,7 +3,7 @@ use Rattle.std.proofs.Common.{◌≡◌, ℕ, ◌+◌, List, [], ◌∷◌, refl
 use Rattle.vme_trace.specs.declared.observation.Observation.{Observation}
 use Rattle.vme_trace.specs.declared.dump.change.Code.{Code}
 use Rattle.vme_trace.specs.declared.dump.change.Value.{Value}
-use Rattle.vme_trace_laws.specs.Values.{after_event, after_events}
+use Rattle.vme_trace.specs.Shown.{after_event, after_events}
 
 -- after some events the variable is at rest
 pub run_rests : (variable : Code) (boards : ℕ) (rest : Value) → ((n : ℕ) (o : Observation) → after_event variable boards n o rest ≡ rest)

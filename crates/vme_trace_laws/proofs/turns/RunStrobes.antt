@@ -13,13 +13,13 @@ use Rattle.vme_trace.specs.Changes.{level_of}
 use Rattle.vme_trace.specs.Handshakes.{first_handshake}
 use Rattle.vme_trace.specs.Slots.{has_ended, end_edge}
 use Rattle.vme_trace.specs.Events.{event_changes}
-use Rattle.vme_trace_laws.specs.Shown.{value_at, address_strobe, address_strobe_before}
+use Rattle.vme_trace_laws.specs.Shown.{address_strobe, address_strobe_before}
+use Rattle.vme_trace.specs.Shown.{value_at, after_event, after_events, value_after_run, value_in_run}
 use Rattle.vme_trace_laws.specs.Events.{event_strobe, strobe_before}
 use Rattle.vme_trace_laws.proofs.waves.Pulses.{not_both}
 use Rattle.vme_trace_laws.proofs.waves.Values.{pulse_at}
 use Rattle.vme_trace_laws.specs.Transfers.{open_after, open_after_all, open_transfer}
 use Rattle.vme_trace_laws.specs.Steps.{IsRunShown}
-use Rattle.vme_trace_laws.specs.Values.{after_event, after_events, value_after_run, value_in_run}
 use Rattle.vme_trace_laws.proofs.turns.Tenures.{IsOpening}
 use Rattle.vme_trace_laws.proofs.turns.Orders.{IsInOrder, IsOrderly, run_orderly}
 use Rattle.vme_trace_laws.proofs.turns.AddressStrobes.{opens_with, strobe_at, strobe_last, none_ends}

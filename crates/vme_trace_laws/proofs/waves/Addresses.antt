@@ -3,10 +3,11 @@ use Rattle.std.proofs.Common.{◌≡◌, ℕ, ◌-◌, ◌/◌, ◌%◌, ◌==�
 use Rattle.vme_trace.specs.declared.dump.change.Value.{Value}
 use Rattle.vme_trace.specs.declared.dump.change.Value.TheVariants.{Low, High, Free, Released, Number}
 use Rattle.vme_trace.specs.declared.dump.handshake.Handshake.{Handshake}
-use Rattle.vme_trace.specs.Changes.{bus_code, level_of}
+use Rattle.vme_trace.specs.Changes.{level_of}
+use Rattle.vme_trace.specs.Variables.{bus_code}
 use Rattle.vme_trace.specs.Handshakes.{edge_of}
 use Rattle.vme_trace.specs.Bus.{is_wide, drive_edge, upper_number, address_strobe_changes, address_changes, address_level_changes, level_changes, data_strobe_changes, data_changes, handshake_changes}
-use Rattle.vme_trace_laws.specs.Shown.{is_code, value_after}
+use Rattle.vme_trace.specs.Shown.{is_code, value_after}
 use Rattle.vme_trace_laws.proofs.waves.Afters.{other, last_other, own, last_own, silent, after_append}
 use Rattle.vme_trace_laws.proofs.waves.Groups.{address_strobe_quiet, address_quiet, address_level_quiet, level_quiet, data_strobe_quiet, data_quiet, answer_quiet}
 use Rattle.vme_trace_laws.proofs.waves.Pulses.{pulse}

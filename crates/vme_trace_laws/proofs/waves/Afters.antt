@@ -3,8 +3,9 @@ use Rattle.std.proofs.Common.{◌≡◌, ℕ, ◌&&◌, Bool, true, false, nat_e
 use Rattle.vme_trace.specs.declared.dump.change.Code.{Code}
 use Rattle.vme_trace.specs.declared.dump.change.Change.{Change}
 use Rattle.vme_trace.specs.declared.dump.change.Value.{Value}
-use Rattle.vme_trace.specs.Changes.{bus_code, change_if}
-use Rattle.vme_trace_laws.specs.Shown.{is_code, value_after}
+use Rattle.vme_trace.specs.Changes.{change_if}
+use Rattle.vme_trace.specs.Variables.{bus_code}
+use Rattle.vme_trace.specs.Shown.{is_code, value_after}
 
 -- some changes and then others
 pub after_append : (line : Code) (k : ℕ) (xs ys : List Change) (before : Value)

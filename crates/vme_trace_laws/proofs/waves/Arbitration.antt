@@ -7,12 +7,14 @@ use Rattle.vme_trace.specs.declared.observation.Observation.{Observation}
 use Rattle.vme_trace.specs.declared.dump.change.Code.{Code}
 use Rattle.vme_trace.specs.declared.dump.change.Value.{Value}
 use Rattle.vme_trace.specs.declared.dump.change.Value.TheVariants.{Low, High, Released, Number}
-use Rattle.vme_trace.specs.Changes.{bus_code, change_if}
+use Rattle.vme_trace.specs.Changes.{change_if}
+use Rattle.vme_trace.specs.Variables.{bus_code, code_of}
 use Rattle.vme_trace.specs.Handshakes.{first_handshake, second_handshake}
 use Rattle.vme_trace.specs.Bus.{some_handshake_changes}
 use Rattle.vme_trace.specs.Slots.{requests, releases, release_edge, grant_edge, slot_changes}
-use Rattle.vme_trace.specs.Events.{request_code, grant_slot, grant_level, is_alone, name_changes, holder_changes, request_line_changes, bus_changes, event_changes}
-use Rattle.vme_trace_laws.specs.Shown.{is_code, value_after, value_at}
+use Rattle.vme_trace.specs.declared.dump.variable.Variable.TheVariants.{BusRequest}
+use Rattle.vme_trace.specs.Events.{grant_slot, grant_level, is_alone, name_changes, holder_changes, request_line_changes, bus_changes, event_changes}
+use Rattle.vme_trace.specs.Shown.{is_code, value_after, value_at}
 use Rattle.vme_trace_laws.proofs.waves.Afters.{other, last_other, own, last_own, silent, after_append}
 use Rattle.vme_trace_laws.proofs.waves.Pulses.{pulse}
 use Rattle.vme_trace_laws.proofs.waves.Quiet.{IsQuiet, if_quiet, append_quiet, IsNoLine, each_quiet}
@@ -21,7 +23,7 @@ use Rattle.vme_trace_laws.proofs.waves.Events.{name_quiet, holder_quiet, request
 use Rattle.vme_trace_laws.proofs.waves.Slots.{bus_quiet}
 
 -- the letter of a bus request line is none of the variables before them
-request_apart : (x level : ℕ) → x ≤ 68 → level ≤ 3 → is_code (bus_code x) (request_code level) ≡ false
+request_apart : (x level : ℕ) → x ≤ 68 → level ≤ 3 → is_code (bus_code x) (code_of (BusRequest level)) ≡ false
 request_apart x level below lawful = ne_eqb (72 - level) x (λ same. absurd (omega (arith, same, below, lawful)))
 
 -- the levels of an event are lawful
@@ -33,10 +35,10 @@ pub record HasLevels (o : Observation) : Type 0 where
 lines_quiet : (x : ℕ) (o : Observation) → x ≤ 68 → HasLevels o → IsQuiet (bus_code x) (request_line_changes o)
 unfolding request_line_changes
 lines_quiet x o below levels =
-    append_quiet (bus_code x) (change_if (requests o.activity) 0 (request_code o.level) Low)
-    (change_if (is_alone o.grant) (grant_edge o.activity + 2) (request_code (grant_level o.grant)) High)
-    (if_quiet (bus_code x) (request_code o.level) (requests o.activity) 0 Low (request_apart x o.level below levels.own))
-    (if_quiet (bus_code x) (request_code (grant_level o.grant)) (is_alone o.grant) (grant_edge o.activity + 2) High
+    append_quiet (bus_code x) (change_if (requests o.activity) 0 (code_of (BusRequest o.level)) Low)
+    (change_if (is_alone o.grant) (grant_edge o.activity + 2) (code_of (BusRequest (grant_level o.grant))) High)
+    (if_quiet (bus_code x) (code_of (BusRequest o.level)) (requests o.activity) 0 Low (request_apart x o.level below levels.own))
+    (if_quiet (bus_code x) (code_of (BusRequest (grant_level o.grant))) (is_alone o.grant) (grant_edge o.activity + 2) High
     (request_apart x (grant_level o.grant) below levels.granted))
 
 -- handshakes and slots move none of the variables of arbitration

@@ -11,7 +11,8 @@ use Rattle.vme_trace.specs.Handshakes.{edge_of, first_handshake, second_handshak
 use Rattle.vme_trace.specs.Bus.{lower_lanes, upper_lanes, handshake_changes}
 use Rattle.vme_trace.specs.Slots.{ends_with, has_ended}
 use Rattle.vme_trace.specs.Events.{event_changes}
-use Rattle.vme_trace_laws.specs.Shown.{value_at, address_strobe, data_lines, upper_data_lines, line_at, IsStrobe, IsAnswer}
+use Rattle.vme_trace_laws.specs.Shown.{address_strobe, data_lines, upper_data_lines, line_at, IsStrobe, IsAnswer}
+use Rattle.vme_trace.specs.Shown.{value_at}
 use Rattle.vme_trace_laws.specs.Events.{IsHandshakeOf, IsWithin, event_line}
 use Rattle.vme_trace_laws.proofs.waves.Groups.{address_strobe_after}
 use Rattle.vme_trace_laws.proofs.waves.Values.{at_pulse}

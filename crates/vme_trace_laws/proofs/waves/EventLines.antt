@@ -8,12 +8,13 @@ use Rattle.vme_trace.specs.declared.dump.change.Code.{Code}
 use Rattle.vme_trace.specs.declared.dump.change.Value.{Value}
 use Rattle.vme_trace.specs.declared.dump.change.Value.TheVariants.{Low, High, Released, Lanes}
 use Rattle.vme_trace.specs.declared.dump.handshake.Handshake.{Handshake}
-use Rattle.vme_trace.specs.Changes.{bus_code}
+use Rattle.vme_trace.specs.Variables.{bus_code}
 use Rattle.vme_trace.specs.Handshakes.{edge_of, first_handshake, second_handshake}
 use Rattle.vme_trace.specs.Bus.{is_wide, drive_edge, lower_lanes, upper_lanes, handshake_changes, some_handshake_changes}
 use Rattle.vme_trace.specs.Slots.{slot_changes}
 use Rattle.vme_trace.specs.Events.{name_changes, holder_changes, request_line_changes, bus_changes, event_changes}
-use Rattle.vme_trace_laws.specs.Shown.{is_code, value_after, value_at, data_lines, upper_data_lines, IsStrobe, IsAnswer}
+use Rattle.vme_trace_laws.specs.Shown.{data_lines, upper_data_lines, IsStrobe, IsAnswer}
+use Rattle.vme_trace.specs.Shown.{is_code, value_after, value_at}
 use Rattle.vme_trace_laws.proofs.waves.Afters.{silent, after_append}
 use Rattle.vme_trace_laws.proofs.waves.Pulses.{pulse}
 use Rattle.vme_trace_laws.proofs.waves.Groups.{first_strobe_after, second_strobe_after, done_after, error_after, data_after, upper_data_after}

@@ -5,12 +5,14 @@ use Rattle.vme_trace.specs.declared.observation.Observation.{Observation}
 use Rattle.vme_trace.specs.declared.dump.change.Code.{Code}
 use Rattle.vme_trace.specs.declared.dump.change.Value.TheVariants.{Low, High, Released, Number}
 use Rattle.vme_trace.specs.declared.dump.handshake.Handshake.{Handshake}
-use Rattle.vme_trace.specs.Changes.{bus_code, slot_code, change_if}
+use Rattle.vme_trace.specs.Changes.{change_if}
+use Rattle.vme_trace.specs.Variables.{bus_code, slot_code, code_of}
 use Rattle.vme_trace.specs.Handshakes.{first_handshake, second_handshake}
 use Rattle.vme_trace.specs.Bus.{some_handshake_changes}
 use Rattle.vme_trace.specs.Slots.{requests, releases, release_edge, grant_edge}
-use Rattle.vme_trace.specs.Events.{request_code, grant_slot, grant_level, is_alone, name_changes, holder_changes, request_line_changes, bus_changes}
-use Rattle.vme_trace_laws.specs.Shown.{is_code}
+use Rattle.vme_trace.specs.declared.dump.variable.Variable.TheVariants.{BusRequest}
+use Rattle.vme_trace.specs.Events.{grant_slot, grant_level, is_alone, name_changes, holder_changes, request_line_changes, bus_changes}
+use Rattle.vme_trace.specs.Shown.{is_code}
 use Rattle.vme_trace_laws.proofs.waves.Afters.{silent}
 use Rattle.vme_trace_laws.proofs.waves.Quiet.{IsQuiet, none_quiet, if_quiet, append_quiet, IsNoLine, handshake_quiet}
 
@@ -36,14 +38,14 @@ holder_quiet code o holder busy k v =
     ∙ if_quiet code (bus_code 68) (is_some o.grant) (grant_edge o.activity + 1) Low busy k v))
 
 -- BR3* to BR0* move no other variable
-pub request_line_quiet : (code : Code) (o : Observation) → ((level : ℕ) → is_code code (request_code level) ≡ false)
+pub request_line_quiet : (code : Code) (o : Observation) → ((level : ℕ) → is_code code (code_of (BusRequest level)) ≡ false)
     → IsQuiet code (request_line_changes o)
 unfolding request_line_changes
 request_line_quiet code o apart =
-    append_quiet code (change_if (requests o.activity) 0 (request_code o.level) Low)
-    (change_if (is_alone o.grant) (grant_edge o.activity + 2) (request_code (grant_level o.grant)) High)
-    (if_quiet code (request_code o.level) (requests o.activity) 0 Low (apart o.level))
-    (if_quiet code (request_code (grant_level o.grant)) (is_alone o.grant) (grant_edge o.activity + 2) High (apart (grant_level o.grant)))
+    append_quiet code (change_if (requests o.activity) 0 (code_of (BusRequest o.level)) Low)
+    (change_if (is_alone o.grant) (grant_edge o.activity + 2) (code_of (BusRequest (grant_level o.grant))) High)
+    (if_quiet code (code_of (BusRequest o.level)) (requests o.activity) 0 Low (apart o.level))
+    (if_quiet code (code_of (BusRequest (grant_level o.grant))) (is_alone o.grant) (grant_edge o.activity + 2) High (apart (grant_level o.grant)))
 
 -- a handshake, if there is one, moves no other variable
 pub some_quiet : (code : Code) (found : Option Handshake) → IsNoLine code → IsQuiet code (some_handshake_changes found)

@@ -4,7 +4,7 @@ use Rattle.std.proofs.lemmas.Bool.{cases_lt}
 use Rattle.vme_trace.specs.declared.dump.change.Code.{Code}
 use Rattle.vme_trace.specs.declared.dump.change.Change.{Change}
 use Rattle.vme_trace.specs.declared.dump.change.Value.{Value}
-use Rattle.vme_trace_laws.specs.Shown.{value_after, value_at}
+use Rattle.vme_trace.specs.Shown.{value_after, value_at}
 
 -- changes that move a variable alike show it alike
 pub same_at : (code : Code) (xs ys : List Change) → ((k : ℕ) (v : Value) → value_after code k xs v ≡ value_after code k ys v) → (before : Value) (k : ℕ)

@@ -5,10 +5,12 @@ use Rattle.vme_trace.specs.declared.dump.change.Code.{Code}
 use Rattle.vme_trace.specs.declared.dump.change.Value.{Value}
 use Rattle.vme_trace.specs.declared.dump.change.Value.TheVariants.{Low, Free, Released, Number}
 use Rattle.vme_trace.specs.declared.dump.handshake.Handshake.{Handshake}
-use Rattle.vme_trace.specs.Changes.{bus_code, level_of}
+use Rattle.vme_trace.specs.Changes.{level_of}
+use Rattle.vme_trace.specs.Variables.{bus_code}
 use Rattle.vme_trace.specs.Handshakes.{edge_of}
 use Rattle.vme_trace.specs.Bus.{is_wide, handshake_changes}
-use Rattle.vme_trace_laws.specs.Shown.{value_after, value_at, line_at, IsAnswer}
+use Rattle.vme_trace_laws.specs.Shown.{line_at, IsAnswer}
+use Rattle.vme_trace.specs.Shown.{value_after, value_at}
 use Rattle.vme_trace_laws.proofs.waves.Pulses.{pulse, holds}
 use Rattle.vme_trace_laws.proofs.waves.Strobes.{answer_within, edge_order}
 use Rattle.vme_trace_laws.proofs.waves.Addresses.{modifier_after, address_after, first_address_after, long_word_after, write_after}

@@ -6,7 +6,7 @@ use Rattle.vme_trace.specs.declared.dump.change.Code.{Code}
 use Rattle.vme_trace.specs.declared.dump.change.Change.{Change}
 use Rattle.vme_trace.specs.declared.dump.change.Value.{Value}
 use Rattle.vme_trace.specs.declared.dump.change.Value.TheVariants.{Low, High, Free, Released, Number, Lanes}
-use Rattle.vme_trace_laws.specs.Shown.{value_after, value_at}
+use Rattle.vme_trace.specs.Shown.{value_after, value_at}
 
 -- whether a value is low
 abbrev is_low : Value → Bool

@@ -8,9 +8,10 @@ use Rattle.vme_trace.specs.declared.dump.change.Code.{Code}
 use Rattle.vme_trace.specs.declared.dump.change.Change.{Change}
 use Rattle.vme_trace.specs.declared.dump.change.Value.{Value}
 use Rattle.vme_trace.specs.declared.dump.handshake.Handshake.{Handshake}
-use Rattle.vme_trace.specs.Changes.{bus_code, change_if}
+use Rattle.vme_trace.specs.Changes.{change_if}
+use Rattle.vme_trace.specs.Variables.{bus_code}
 use Rattle.vme_trace.specs.Bus.{address_strobe_changes, address_changes, level_changes, data_strobe_changes, data_changes, handshake_changes}
-use Rattle.vme_trace_laws.specs.Shown.{is_code, value_after}
+use Rattle.vme_trace.specs.Shown.{is_code, value_after}
 use Rattle.vme_trace_laws.proofs.waves.Afters.{after_append, silent}
 use Rattle.vme_trace_laws.proofs.waves.Groups.{address_strobe_quiet, address_quiet, level_quiet, data_strobe_quiet, data_quiet, answer_quiet}
 

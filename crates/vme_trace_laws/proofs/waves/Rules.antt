@@ -7,11 +7,12 @@ use Rattle.vme_trace.specs.declared.dump.change.Code.{Code}
 use Rattle.vme_trace.specs.declared.dump.change.Value.{Value}
 use Rattle.vme_trace.specs.declared.dump.change.Value.TheVariants.{Low, High}
 use Rattle.vme_trace.specs.declared.dump.handshake.Handshake.{Handshake}
-use Rattle.vme_trace.specs.Changes.{bus_code}
+use Rattle.vme_trace.specs.Variables.{bus_code}
 use Rattle.vme_trace.specs.Handshakes.{edge_of, first_handshake, second_handshake}
 use Rattle.vme_trace.specs.Bus.{handshake_changes}
 use Rattle.vme_trace.specs.Events.{event_changes}
-use Rattle.vme_trace_laws.specs.Shown.{value_after, value_at, first_strobe, second_strobe, acknowledge, bus_error, line_at, IsStrobe, IsAnswer}
+use Rattle.vme_trace_laws.specs.Shown.{first_strobe, second_strobe, acknowledge, bus_error, line_at, IsStrobe, IsAnswer}
+use Rattle.vme_trace.specs.Shown.{value_after, value_at}
 use Rattle.vme_trace_laws.specs.Events.{HasStrobes, event_line, strobe_before, event_strobe}
 use Rattle.vme_trace_laws.proofs.waves.Pulses.{pulse, not_both}
 use Rattle.vme_trace_laws.proofs.waves.Groups.{address_strobe_after}

@@ -12,13 +12,15 @@ use Rattle.vme_trace.specs.declared.dump.change.Change.{Change}
 use Rattle.vme_trace.specs.declared.dump.change.Value.{Value}
 use Rattle.vme_trace.specs.declared.dump.change.Value.TheVariants.{Low, High, Number}
 use Rattle.vme_trace.specs.declared.dump.port.PortAccess.{PortAccess}
-use Rattle.vme_trace.specs.Changes.{slot_code, change_if}
+use Rattle.vme_trace.specs.Changes.{change_if}
+use Rattle.vme_trace.specs.declared.dump.variable.Variable.{Variable}
+use Rattle.vme_trace.specs.Variables.{slot_code, code_of}
 use Rattle.vme_trace.specs.Ports as port
 use Rattle.vme_trace.specs.Ports.{port_access, last_edge, control_changes, bytes_changes, reply_changes, port_changes}
 use Rattle.vme_trace.specs.Slots.{grant_edge, passes_grant, grant_lines, selects, opens, has_ended, end_edge, line_changes, request_changes, chain_changes, busy_changes, select_changes, access_changes, local_changes, own_port_changes, slot_changes}
 use Rattle.vme_trace.specs.Handshakes.{second_handshake}
 use Rattle.vme_trace.specs.Events.{event_changes}
-use Rattle.vme_trace_laws.specs.Shown.{is_code, value_after, value_at}
+use Rattle.vme_trace.specs.Shown.{is_code, value_after, value_at}
 use Rattle.vme_trace_laws.specs.Events.{IsPortLine}
 use Rattle.vme_trace_laws.proofs.waves.Afters.{other, own, last_own, silent, after_append}
 use Rattle.vme_trace_laws.proofs.waves.Pulses.{pulse}
@@ -233,13 +235,13 @@ port_rests letter o board boards n past there each =
     ∙ own_rests (slot_code board letter) board each o
 
 -- after an event the select line, the answer and the error line of a local port are at rest
-pub ports_rest : (boards n : ℕ) (o : Observation) (board letter : ℕ) → board < boards → IsPortLine letter
-    → value_at (slot_code board letter) (event_changes boards n o) Low 19 ≡ Low
-ports_rest boards n o board letter there (inl same) =
+pub ports_rest : (boards n : ℕ) (o : Observation) (board : ℕ) (variable : Variable) → board < boards → IsPortLine board variable
+    → value_at (code_of variable) (event_changes boards n o) Low 19 ≡ Low
+ports_rest boards n o board variable there (inl same) =
     rw same (port_rests 102 o board boards n (omega arith) there (chip_rests board))
-ports_rest boards n o board letter there (inr (inl same)) =
+ports_rest boards n o board variable there (inr (inl same)) =
     rw same (port_rests 106 o board boards n (omega arith) there (answer_rests board))
-ports_rest boards n o board letter there (inr (inr same)) =
+ports_rest boards n o board variable there (inr (inr same)) =
     rw same (port_rests 107 o board boards n (omega arith) there (error_rests board))
 
 module _ (o : Observation) (board : ℕ) where

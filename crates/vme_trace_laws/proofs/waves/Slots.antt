@@ -11,12 +11,13 @@ use Rattle.vme_trace.specs.declared.dump.change.Code.{Code}
 use Rattle.vme_trace.specs.declared.dump.change.Value.{Value}
 use Rattle.vme_trace.specs.declared.dump.change.Value.TheVariants.{Low, High, Free, Released, Number, Lanes}
 use Rattle.vme_trace.specs.declared.dump.port.PortAccess.{PortAccess}
-use Rattle.vme_trace.specs.Changes.{bus_code, slot_code, level_of, change_if}
+use Rattle.vme_trace.specs.Changes.{level_of, change_if}
+use Rattle.vme_trace.specs.Variables.{bus_code, slot_code}
 use Rattle.vme_trace.specs.Ports as port
 use Rattle.vme_trace.specs.Ports.{port_access, last_edge, lanes_if, control_changes, bytes_changes, reply_changes, port_changes}
 use Rattle.vme_trace.specs.Slots.{requests, releases, release_edge, grant_edge, is_granted, passes_grant, grant_lines, selects, opens, has_ended, end_edge, line_changes, request_changes, chain_changes, busy_changes, select_changes, access_changes, local_changes, own_port_changes, slot_changes}
 use Rattle.vme_trace.specs.Events.{bus_changes, event_changes}
-use Rattle.vme_trace_laws.specs.Shown.{is_code, value_after, value_at}
+use Rattle.vme_trace.specs.Shown.{is_code, value_after, value_at}
 use Rattle.vme_trace_laws.proofs.waves.Afters.{own, last_own, silent, after_append}
 use Rattle.vme_trace_laws.proofs.waves.Pulses.{pulse}
 use Rattle.vme_trace_laws.proofs.waves.Quiet.{IsQuiet, none_quiet, if_quiet, append_quiet, own_of_each}

@@ -6,10 +6,11 @@ use Rattle.vme_trace.specs.declared.dump.change.Change.{Change}
 use Rattle.vme_trace.specs.declared.dump.change.Value.{Value}
 use Rattle.vme_trace.specs.declared.dump.change.Value.TheVariants.{Low, High, Released, Lanes}
 use Rattle.vme_trace.specs.declared.dump.handshake.Handshake.{Handshake}
-use Rattle.vme_trace.specs.Changes.{bus_code}
+use Rattle.vme_trace.specs.Variables.{bus_code}
 use Rattle.vme_trace.specs.Handshakes.{edge_of}
 use Rattle.vme_trace.specs.Bus.{drive_edge, lower_lanes, handshake_changes}
-use Rattle.vme_trace_laws.specs.Shown.{value_after, value_at, address_strobe_at, line_at, data_lines, IsStrobe, IsAnswer, HasStrobe}
+use Rattle.vme_trace_laws.specs.Shown.{address_strobe_at, line_at, data_lines, IsStrobe, IsAnswer, HasStrobe}
+use Rattle.vme_trace.specs.Shown.{value_after, value_at}
 use Rattle.vme_trace_laws.proofs.waves.Pulses.{pulse, never_low, low_between, still_low, holds}
 use Rattle.vme_trace_laws.proofs.waves.Groups.{address_strobe_after, first_strobe_after, second_strobe_after, done_after, error_after, data_after}
 

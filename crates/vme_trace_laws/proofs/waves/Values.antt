@@ -6,7 +6,7 @@ use Rattle.std.proofs.lemmas.Bool.Decides.{eqb_tells, leb_tells}
 use Rattle.vme_trace.specs.declared.dump.change.Code.{Code}
 use Rattle.vme_trace.specs.declared.dump.change.Change.{Change}
 use Rattle.vme_trace.specs.declared.dump.change.Value.{Value}
-use Rattle.vme_trace_laws.specs.Shown.{value_after, value_at}
+use Rattle.vme_trace.specs.Shown.{value_after, value_at}
 use Rattle.vme_trace_laws.proofs.waves.Pulses.{pulse}
 
 -- a number is at most the next of another exactly if it is at most that number, or is the next

@@ -1,15 +1,14 @@
 use Rattle.std.proofs.Common.{◌≡◌, ◌≤◌, ℕ, List, ◌++◌, length, false}
-use Rattle.vme_io.proofs.lemmas.Gathering.{SoFar}
 use Rattle.vme_stepper.specs.Turns.{state_after}
 use Rattle.vme_stepper.specs.Schedules.{file_turns}
 use Rattle.vme_stepper.specs.Steppers.{stepper_of, IsStepperOf}
-use Rattle.vme_trace.specs.Observations.{observed_from}
+use Rattle.vme_trace.specs.declared.observation.Observation.{Observation}
 use Rattle.vme_trace.specs.Turns.{turns_left, IsTurnsOf}
-use Rattle.vme_page.specs.Drawings.{diagrams_text}
-use Rattle.vme_page.specs.Pages.{run_diagrams}
+use Rattle.vme_page.specs.Drawings.{ShowsRun}
+use Rattle.vme_page.specs.Pages.{Grows}
 use Rattle.vme_page.proofs.diagrams.draw_turns.Given as goal
 
--- the turns so far were made, and the text of their diagrams, with that of the turns that are left, is the whole text
+-- the turns so far were made, and the diagrams show their events
 abbrev pub invariant-loop-slot : goal.invariant-loop-slot
 invariant-loop-slot g l = record {
   before : List ℕ;
@@ -18,9 +17,9 @@ invariant-loop-slot g l = record {
   state : l.stepper ≡ stepper_of l.config (state_after l.config before);
   sound : IsStepperOf l.config l.stepper;
   few : l.drawing.count ≤ length before;
-  gathered : SoFar (g.W.Sink.contents l.fn.writer) (g.W.Sink.contents l.writer) l.text.items
-      (diagrams_text l.config l.range l.drawing (observed_from l.config l.stepper (turns_left l.config l.turns)))
-      (l.fn.text.items ++ run_diagrams l.config l.range);
+  events : List Observation;
+  shows : ShowsRun l.config events l.drawing;
+  grown : Grows (g.W.Sink.contents l.fn.writer) (g.W.Sink.contents l.writer);
   mark : g.W.Sink.is_marked l.writer ≡ false;
 }
 

@@ -1,6 +1,5 @@
-use Rattle.std.proofs.Common.{ℕ, ◌≡◌, List, map, sym, ap, ◌∙◌}
+use Rattle.std.proofs.Common.{ℕ, List, map, sym, ap, ◌∙◌}
 use Rattle.std.proofs.lemmas.Option.{get_or_from_slice_get}
-use Rattle.vme_core.specs.Runs.{Machine}
 use Rattle.vme_core.proofs.lemmas.NextSteps.{its_call}
 use Rattle.vme_script.specs.declared.board.BoardConfig.{BoardConfig}
 use Rattle.vme_line_task.specs.declared.task.LineTask.{LineTask}

@@ -1,7 +1,7 @@
 use Rattle.std.proofs.Common.{length}
 use Rattle.vme_trace.specs.Observations.{observations}
 use Rattle.vme_trace.specs.declared.dump.change.Value.TheVariants.{Low, High, Released, Number}
-use Rattle.vme_trace.specs.Changes.{slot_code}
+use Rattle.vme_trace.specs.Variables.{code_of}
 use Rattle.vme_trace_laws.specs.Shown.{data_lines, upper_data_lines}
 use Rattle.vme_trace_laws.specs.Events.{grant_lines_in}
 use Rattle.vme_trace_laws.proofs.turns.Rests.{run_rests}
@@ -33,6 +33,6 @@ returns-clause-grants c = λ config slots board there.
     (λ n o. c.events_end_at_rest.ensures.grants (length config.boards) n o board there) 0 (observations config slots)
 
 pub returns-clause-ports : goal.returns-clause-ports
-returns-clause-ports c = λ config slots board letter there is.
-    run_rests (slot_code board letter) (length config.boards) Low
-    (λ n o. c.events_end_at_rest.ensures.ports (length config.boards) n o board letter there is) 0 (observations config slots)
+returns-clause-ports c = λ config slots board variable there is.
+    run_rests (code_of variable) (length config.boards) Low
+    (λ n o. c.events_end_at_rest.ensures.ports (length config.boards) n o board variable there is) 0 (observations config slots)

@@ -2,7 +2,7 @@ use Rattle.std.proofs.Common.{◌+◌, ap, sym, ◌∙◌, length}
 use Rattle.vme_trace.specs.declared.dump.change.Value.{Value}
 use Rattle.vme_trace.specs.declared.dump.change.Value.TheVariants.{High}
 use Rattle.vme_trace.specs.Events.{event_changes}
-use Rattle.vme_trace_laws.specs.Shown.{value_at}
+use Rattle.vme_trace.specs.Shown.{value_at}
 use Rattle.vme_trace_laws.proofs.turns.Rests.{run_rests}
 use Rattle.vme_trace_laws.proofs.turns.RunStrobes.{strobe_after_run, own_transfer, strobe_before_event, low_within, low_in_run}
 use Rattle.vme_trace_laws.proofs.turns.BusStrobes.{low_driven}

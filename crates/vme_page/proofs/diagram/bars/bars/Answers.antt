@@ -1,4 +1,4 @@
-use Rattle.std.proofs.Common.{ℕ, ◌<◌, ◌+◌, ◌-◌, ◌++◌, length, sym, ap, ◌∙◌, arith, append_assoc}
+use Rattle.std.proofs.Common.{ℕ, [], ◌<◌, ◌+◌, ◌-◌, ◌++◌, length, sym, ap, ◌∙◌, arith, append_assoc}
 use Rattle.std.specs.List.{flat_map, range_with_len}
 use Rattle.vme_page.specs.Layouts.{bar_of}
 use Rattle.vme_page.proofs.Ranges.{range_next}
@@ -7,7 +7,7 @@ use Rattle.vme_page.proofs.diagram.bars.bars.Goals as goal
 pub loop-board-preserved : goal.loop-board-preserved
 loop-board-preserved c =
     let count = length c.args.config.now.boards in
-    let f = bar_of c.args.config.now in
+    let f = bar_of c.args.config.now [] in
     let within : c.loop-board.board < count = omega (arith, c.loop-board-test.true, c.boards-board-end.ensures.value) in
     let rest = flat_map f (range_with_len (c.loop-board.board + 1) (count - (c.loop-board.board + 1))) in
     record {

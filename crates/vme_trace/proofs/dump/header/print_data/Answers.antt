@@ -1,8 +1,21 @@
-use Rattle.vme_trace.specs.Headers.{data_text}
-use Rattle.vme_trace.proofs.Appends.{extended}
+use Rattle.std.specs.Prelude.{◌++◌, codes}
+use Rattle.vme_trace.specs.declared.dump.variable.Variable.TheVariants.{FirstStrobe, SecondStrobe, DataLines, UpperDataLines, Acknowledge, BusError}
+use Rattle.vme_trace.specs.Headers.{data_text, declaration}
+use Rattle.vme_trace.proofs.Appends.{appended}
 use Rattle.vme_trace.proofs.dump.header.print_data.Goals as goal
 
 pub returns : goal.returns
 unfolding data_text
 returns c =
-    extended c.extend_from_slice.result c.args.text.now.items c.extend_from_slice.new.self.items data_text c.extend_from_slice.ensures.items
+    let p1 = declaration (codes "wire 1") FirstStrobe (codes "ds1_n") in
+    let p2 = declaration (codes "wire 1") SecondStrobe (codes "ds0_n") in
+    let p3 = declaration (codes "wire 32") DataLines (codes "d [31:0]") in
+    let p4 = declaration (codes "wire 32") UpperDataLines (codes "dh [63:32]") in
+    let p5 = declaration (codes "wire 1") Acknowledge (codes "dtack_n") in
+    let p6 = declaration (codes "wire 1") BusError (codes "berr_n") in
+    appended c.print_declaration-6.result c.args.text.now.items c.print_declaration.new.text.items c.print_declaration-6.new.text.items p1 (p2 ++ (p3 ++ (p4 ++ (p5 ++ p6)))) c.in_ok-print_declaration.ensures
+    (appended c.print_declaration-6.result c.print_declaration.new.text.items c.print_declaration-2.new.text.items c.print_declaration-6.new.text.items p2 (p3 ++ (p4 ++ (p5 ++ p6))) c.in_ok-print_declaration-2.ensures
+    (appended c.print_declaration-6.result c.print_declaration-2.new.text.items c.print_declaration-3.new.text.items c.print_declaration-6.new.text.items p3 (p4 ++ (p5 ++ p6)) c.in_ok-print_declaration-3.ensures
+    (appended c.print_declaration-6.result c.print_declaration-3.new.text.items c.print_declaration-4.new.text.items c.print_declaration-6.new.text.items p4 (p5 ++ p6) c.in_ok-print_declaration-4.ensures
+    (appended c.print_declaration-6.result c.print_declaration-4.new.text.items c.print_declaration-5.new.text.items c.print_declaration-6.new.text.items p5 p6 c.in_ok-print_declaration-5.ensures
+    c.print_declaration-6.ensures))))
