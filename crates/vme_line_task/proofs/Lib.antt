@@ -4,4 +4,3 @@ pub mod Waits
 pub mod Ends
 pub mod Tenures
 pub mod Attempted
-pub mod Mailboxes

@@ -5,3 +5,4 @@ pub mod Traces
 pub mod Kept
 pub mod LineBuffers
 pub mod Lines
+pub mod Mailboxes

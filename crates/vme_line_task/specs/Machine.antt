@@ -71,9 +71,13 @@ abbrev pub line_fresh : ℕ → Result Attempt CycleFault → LineTask
 line_fresh tries (Ok attempt) = Running (record { attempt = attempt_fresh attempt; left = tries })
 line_fresh tries (Err fault) = Refused fault
 
--- a line of a board's processor before its first call
+-- a line of a board's processor before its first call, with so many attempts
+abbrev pub line_started_with : Configuration → ℕ → ℕ → Line → LineTask
+line_started_with config board tries line = line_fresh tries (line_attempt config board line)
+
+-- a line of a board's processor before its first call, with as many attempts as the configuration has
 unfoldable pub line_started : Configuration → ℕ → Line → LineTask
-line_started config board line = line_fresh config.tries (line_attempt config board line)
+line_started config board line = line_started_with config board config.tries line
 
 -- a line after the next reply, or an absent one
 abbrev pub line_advance : LineTask → Option EventReply → LineTask
@@ -95,7 +99,11 @@ abbrev pub line_advanced : LineTask → Inputs → LineTask
 line_advanced task [] = task
 line_advanced task (last ∷ before) = line_advance (line_advanced task before) last
 
--- a line of a board's processor after all that it was given, the newest first
+-- a line of a board's processor with so many attempts, after all that it was given, the newest first
+abbrev pub line_given_with : Configuration → ℕ → ℕ → Line → Inputs → LineTask
+line_given_with config board tries line given = line_advanced (line_started_with config board tries line) given
+
+-- the same with as many attempts as the configuration has
 abbrev pub line_given : Configuration → ℕ → Line → Inputs → LineTask
 line_given config board line given = line_advanced (line_started config board line) given
 

@@ -80,10 +80,14 @@ abbrev pub lawful_next : ℕ → Result Attempt CycleFault → Inputs → NextSt
 lawful_next tries (Ok attempt) given = attempt_next attempt (attempts_of attempt tries given).given
 lawful_next tries (Err fault) given = Returns (Refused fault)
 
--- what a line of a board's processor does next, by all that it was given, the newest first: the reply to each call, or
--- none
+-- what a line of a board's processor with so many attempts does next, by all that it was given, the newest first: the
+-- reply to each call, or none
+abbrev pub next_given_with : Configuration → ℕ → ℕ → Line → Inputs → NextStep LineReply
+next_given_with config board tries line given = lawful_next tries (line_attempt config board line) given
+
+-- the same with as many attempts as the configuration has
 unfoldable pub next_given : Configuration → ℕ → Line → Inputs → NextStep LineReply
-next_given config board line given = lawful_next config.tries (line_attempt config board line) given
+next_given config board line given = next_given_with config board config.tries line given
 
 -- what a line with these replies was given, the newest first: none at its first call
 abbrev pub given_of : List EventReply → Inputs

@@ -20,17 +20,20 @@ ghost use Rattle.vme_grammar.specs.declared.line.Line.{Line};
 ghost use Rattle.vme_grammar.specs.Grammar.{IsOwnLine};
 ghost use Rattle.vme_script.specs.Configurations.{Configuration};
 ghost use Rattle.vme_line_task.specs.Scripts.{slot_at, level_at, lines_at};
-ghost use Rattle.vme_line_task.specs.Tables.{next_given, line_next};
-ghost use Rattle.vme_line_task.specs.Machine.{line_given, line_after, line_to_do};
+ghost use Rattle.vme_line_task.specs.Tables.{next_given_with, next_given, line_next};
+ghost use Rattle.vme_line_task.specs.Machine.{line_given_with, line_given, line_after, line_to_do};
 ghost use Rattle.vme_line_task.specs.Events.{IsCallBelow};
 ghost use Rattle.vme_line_task.specs.Traces.{ScriptState, IsTracePrefix};
 ghost use Rattle.vme_line_task.specs.Tenures.{line_arb_reply, IsLocal, IsUndeniedReply, IsGranted};
 
 /// States that a line follows the table: after calls with any replies, its next step is the one of
-/// the table. A line's reply is final.
+/// the table, whatever its number of attempts. A line's reply is final.
 pub fn lines_go_by_the_table()
     ensures given { (config : Configuration) (board : ℕ) (line : Line) (given : Inputs) →
         line_to_do (line_given config board line given) ≡ next_given config board line given }
+    ensures tries { (config : Configuration) (board tries : ℕ) (line : Line) (given : Inputs) →
+        line_to_do (line_given_with config board tries line given)
+        ≡ next_given_with config board tries line given }
     ensures replies { (config : Configuration) (board : ℕ) (line : Line) (replies : List EventReply) →
         line_to_do (line_after config board line replies) ≡ line_next config board line replies }
     ensures end { (config : Configuration) (board : ℕ) (line : Line) (given : Inputs)

@@ -12,7 +12,7 @@ ghost use Rattle.vme_line_task.specs.Scripts.{HasItsMailbox, lines_at};
 ghost use Rattle.vme_line_task.specs.ReadBuffers.{line_read_len};
 ghost use Rattle.vme_line_task.specs.CurrentData.{line_datum, line_command};
 ghost use Rattle.vme_line_task.specs.Tables.{next_given};
-ghost use Rattle.vme_line_task.specs.Machine.{line_started, line_advance, line_to_do, line_given, attempts_left, IsLineBelow};
+ghost use Rattle.vme_line_task.specs.Machine.{line_started_with, line_started, line_advance, line_to_do, line_given, attempts_left, IsLineBelow};
 ghost use Rattle.vme_line_task.specs.declared.attempt.AttemptTask.TheVariants as tasks;
 ghost use Rattle.vme_line_task.specs.declared.task.LineTask.TheVariants.{Running};
 ghost use Rattle.vme_line_task.specs.Events.{call_of_todo, reply_in, IsTodoBelow};
@@ -43,7 +43,6 @@ impl<'a> LineTask<'a> {
     ///
     /// `board` is the board's index in the configuration, and `line` the line's index among those
     /// that request something. A request over the bus reads into `buffer`.
-    #[tactic(auto, using(crate::proofs::lemmas::Below::started_below))]
     pub fn start(config: &'a Config, board: usize, line: usize, buffer: BlockBuffer) -> LineTask<'a>
         requires board { board < length config.now.boards }
         requires line { line < length (lines_at config.now board) }
@@ -56,7 +55,60 @@ impl<'a> LineTask<'a> {
     {
         let boards = config.boards();
         prove!(board < boards);
-        LineTask::of(config, board, config.script(board).line(line), buffer)
+        let line = config.script(board).line(line);
+        LineTask::of(config, board, line, config.tries(), buffer)
+    }
+
+    /// Returns a line of a board's processor before its first call, at which at most `tries` attempts
+    /// are made.
+    ///
+    /// `board` is the board's index in the configuration. A request over the bus reads into
+    /// `buffer`.
+    pub fn of(
+        config: &'a Config,
+        board: usize,
+        line: &'a Line,
+        tries: u32,
+        buffer: BlockBuffer,
+    ) -> LineTask<'a>
+        requires board { board < length config.now.boards }
+        requires mailbox { HasItsMailbox config.now line.now }
+        requires none { buffer.items ≡ [] }
+        requires capacity { line_read_len line.now ≤ buffer.capacity }
+        ensures { result ≡ line_started_with config.now board tries line.now }
+    {
+        match line {
+            Line::Bus(request) => match transfer(config, board, request, buffer) {
+                Ok(task) => transfer_line(task, tries),
+                Err(fault) => LineTask::Refused(fault),
+            },
+            Line::Local(cmd) => transfer_line(Task::local(board, cmd.copy()), tries),
+            _ => LineTask::of_any(config, board, line, tries, buffer),
+        }
+    }
+
+    /// Returns any line of a board's processor before its first call. `of` calls it for all lines
+    /// but transfers and local commands.
+    fn of_any(
+        config: &'a Config,
+        board: usize,
+        line: &'a Line,
+        tries: u32,
+        buffer: BlockBuffer,
+    ) -> LineTask<'a>
+        requires board { board < length config.now.boards }
+        requires mailbox { HasItsMailbox config.now line.now }
+        requires none { buffer.items ≡ [] }
+        requires capacity { line_read_len line.now ≤ buffer.capacity }
+        ensures { result ≡ line_started_with config.now board tries line.now }
+    {
+        match attempt_of(config, board, line, buffer) {
+            Ok(attempt) => LineTask::Running(Attempts {
+                attempt,
+                left: tries,
+            }),
+            Err(fault) => LineTask::Refused(fault),
+        }
     }
 
     /// Returns what the line does next. `given` is `None` at the first call, and then the reply to
@@ -200,44 +252,6 @@ impl<'a> LineTask<'a> {
         match self {
             LineTask::Refused(fault) => Some(LineReply::Refused(fault)),
             LineTask::Running(attempts) => attempts.attempt.into_reply(),
-        }
-    }
-
-    /// Returns a line of a board's processor before its first call.
-    #[tactic(auto, unfolding(crate::specs::Machine::line_started))]
-    fn of(config: &'a Config, board: usize, line: &'a Line, buffer: BlockBuffer) -> LineTask<'a>
-        requires board { board < length config.now.boards }
-        requires mailbox { HasItsMailbox config.now line.now }
-        requires none { buffer.items ≡ [] }
-        requires capacity { line_read_len line.now ≤ buffer.capacity }
-        ensures { result ≡ line_started config.now board line.now }
-    {
-        match line {
-            Line::Bus(request) => match transfer(config, board, request, buffer) {
-                Ok(task) => transfer_line(task, config.tries()),
-                Err(fault) => LineTask::Refused(fault),
-            },
-            Line::Local(cmd) => transfer_line(Task::local(board, cmd.copy()), config.tries()),
-            _ => LineTask::of_any(config, board, line, buffer),
-        }
-    }
-
-    /// Returns any line of a board's processor before its first call. `of` calls it for all lines
-    /// but transfers and local commands.
-    #[tactic(auto, unfolding(crate::specs::Machine::line_started))]
-    fn of_any(config: &'a Config, board: usize, line: &'a Line, buffer: BlockBuffer) -> LineTask<'a>
-        requires board { board < length config.now.boards }
-        requires mailbox { HasItsMailbox config.now line.now }
-        requires none { buffer.items ≡ [] }
-        requires capacity { line_read_len line.now ≤ buffer.capacity }
-        ensures { result ≡ line_started config.now board line.now }
-    {
-        match attempt_of(config, board, line, buffer) {
-            Ok(attempt) => LineTask::Running(Attempts {
-                attempt,
-                left: config.tries(),
-            }),
-            Err(fault) => LineTask::Refused(fault),
         }
     }
 }

@@ -32,10 +32,10 @@ use Rattle.vme_line_task.specs.declared.task.LineTask.{LineTask}
 use Rattle.vme_line_task.specs.declared.todo.LineTodo.{LineTodo}
 use Rattle.vme_line_task.specs.declared.todo.LineTodo.TheVariants as todos
 use Rattle.vme_line_task.specs.Scripts.{Attempt, Transferring, Awaiting, Sharing, slot_at, level_at, mailbox_at, transfer_job, request_attempt, unless_refused, shared_job, shared_attempt, line_attempt}
-use Rattle.vme_line_task.specs.Tables.{transferring_next, await_reply, awaiting_next, sharing_next, attempts_of, lawful_next, next_given}
-use Rattle.vme_line_task.specs.Machine.{line_started, line_advance, line_to_do, line_advanced, IsLineBelow}
+use Rattle.vme_line_task.specs.Tables.{transferring_next, await_reply, awaiting_next, sharing_next, attempts_of, lawful_next, next_given_with, next_given}
+use Rattle.vme_line_task.specs.Machine.{line_started_with, line_advance, line_to_do, line_advanced, IsLineBelow}
 use Rattle.vme_line_task.specs.Events.{call_of_todo, IsCallBelow, IsTodoBelow}
-use Rattle.vme_line_task.proofs.lemmas.Lines.{by_the_given}
+use Rattle.vme_line_task.proofs.lemmas.Lines.{by_the_given_with}
 
 -- the boards of an attempt are among the first n
 abbrev IsAttemptBelow : ℕ → Result Attempt CycleFault → Type 0
@@ -113,19 +113,24 @@ lawful_below n tries (Ok (Sharing s)) given (OnBoard board command) below made =
 lawful_below n tries (Ok (Sharing s)) given (OnBus cmd) below made = tt
 lawful_below n tries (Err fault) given call below made = absurd cc
 
+-- each board that a line with so many attempts calls is one of the configuration
+next_below_with : (config : Configuration) (board tries : ℕ) (line : Line) (given : Inputs) (call : Call) → board < length config.boards
+    → next_given_with config board tries line given ≡ Invokes call → IsCallBelow (length config.boards) call
+next_below_with config board tries line given call there made =
+    lawful_below (length config.boards) tries (line_attempt config board line) given call (attempt_below config board line there) made
+
 -- each board that a line calls is one of the configuration
 pub next_below : (config : Configuration) (board : ℕ) (line : Line) (given : Inputs) (call : Call) → board < length config.boards
     → next_given config board line given ≡ Invokes call → IsCallBelow (length config.boards) call
 unfolding next_given
-next_below config board line given call there made =
-    lawful_below (length config.boards) config.tries (line_attempt config board line) given call (attempt_below config board line there) made
+next_below config board line given call there made = next_below_with config board config.tries line given call there made
 
 -- a line that starts calls only boards of the configuration
-pub started_below : (config : Configuration) (board : ℕ) (line : Line) → board < length config.boards
-    → IsLineBelow (length config.boards) (line_started config board line)
+pub started_below : (config : Configuration) (board tries : ℕ) (line : Line) → board < length config.boards
+    → IsLineBelow (length config.boards) (line_started_with config board tries line)
 unfolding IsLineBelow
-started_below config board line there = λ given call made.
-    next_below config board line given call there (sym (by_the_given config board line given) ∙ made)
+started_below config board tries line there = λ given call made.
+    next_below_with config board tries line given call there (sym (by_the_given_with config board tries line given) ∙ made)
 
 -- a line that is given one reply and then others is given the list of all of them
 after_all : (task : LineTask) (last : Option EventReply) (given : Inputs)

@@ -22,8 +22,8 @@ use Rattle.vme_line_task.specs.declared.attempt.AttemptTask.{AttemptTask}
 use Rattle.vme_line_task.specs.declared.attempt.AttemptTask.TheVariants as tasks
 use Rattle.vme_line_task.specs.Scripts.{Attempt, Transferring, Awaiting, Sharing, line_attempt}
 use Rattle.vme_line_task.specs.Tables as table
-use Rattle.vme_line_task.specs.Tables.{transferring_next, awaiting_next, sharing_next, attempt_next, next_wants_retry, next_attempt, attempts_of, lawful_next, next_given, line_next, given_of}
-use Rattle.vme_line_task.specs.Machine.{attempt_fresh, attempt_anew, attempt_advance, attempt_to_do, attempts_again, attempts_advance, line_fresh, line_started, line_advance, line_to_do, line_advanced, line_given, line_after}
+use Rattle.vme_line_task.specs.Tables.{transferring_next, awaiting_next, sharing_next, attempt_next, next_wants_retry, next_attempt, attempts_of, lawful_next, next_given_with, next_given, line_next, given_of}
+use Rattle.vme_line_task.specs.Machine.{attempt_fresh, attempt_anew, attempt_advance, attempt_to_do, attempts_again, attempts_advance, line_fresh, line_started, line_advance, line_to_do, line_advanced, line_given_with, line_given, line_after}
 
 -- the task of an attempt after all that it was given
 abbrev attempt_task : Attempt → Inputs → AttemptTask
@@ -98,11 +98,16 @@ by_attempt : (tries : ℕ) (attempt : Result Attempt CycleFault) (given : Inputs
 by_attempt tries (Ok a) given = ap line_to_do (attempts_given a tries given) ∙ task_next a (attempts_of a tries given).given
 by_attempt tries (Err fault) given = ap line_to_do (refused_given tries fault given)
 
+-- a line with so many attempts does next what the table says, by all that it was given
+pub by_the_given_with : (config : Configuration) (board tries : ℕ) (line : Line) (given : Inputs)
+    → line_to_do (line_given_with config board tries line given) ≡ next_given_with config board tries line given
+by_the_given_with config board tries line given = by_attempt tries (line_attempt config board line) given
+
 -- a line does next what the table says, by all that it was given
 pub by_the_given : (config : Configuration) (board : ℕ) (line : Line) (given : Inputs)
     → line_to_do (line_given config board line given) ≡ next_given config board line given
 unfolding line_started next_given
-by_the_given config board line given = by_attempt config.tries (line_attempt config board line) given
+by_the_given config board line given = by_the_given_with config board config.tries line given
 
 -- a line does next what the table says, by the replies to its calls
 pub by_the_replies : (config : Configuration) (board : ℕ) (line : Line) (replies : List EventReply)

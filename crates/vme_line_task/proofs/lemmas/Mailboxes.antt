@@ -35,15 +35,15 @@ named config lawful box is =
     there config lawful box first last
 
 -- a line that names only declared mailboxes has its mailbox
-asked : (config : Configuration) → IsLawful config → (line : Line) → may_name (Declared (length config.mailboxes)) line ≡ true
+pub names_mailbox : (config : Configuration) → IsLawful config → (line : Line) → may_name (Declared (length config.mailboxes)) line ≡ true
     → HasItsMailbox config line
-asked config lawful (lines.Bus request) may = tt
-asked config lawful (lines.Local cmd) may = tt
-asked config lawful (lines.Await am addr bytes) may = tt
-asked config lawful (lines.Lock am addr) may = tt
-asked config lawful (lines.Unlock am addr) may = tt
-asked config lawful (lines.Put box word) may = named config lawful box may
-asked config lawful (lines.Take box) may = named config lawful box may
+names_mailbox config lawful (lines.Bus request) may = tt
+names_mailbox config lawful (lines.Local cmd) may = tt
+names_mailbox config lawful (lines.Await am addr bytes) may = tt
+names_mailbox config lawful (lines.Lock am addr) may = tt
+names_mailbox config lawful (lines.Unlock am addr) may = tt
+names_mailbox config lawful (lines.Put box word) may = named config lawful box may
+names_mailbox config lawful (lines.Take box) may = named config lawful box may
 
 -- the line at each place of a script has its mailbox
 pub its_mailbox : (config : Configuration) → IsLawful config → (i j : ℕ) (script : List ScriptLine) (line : Line)
@@ -53,7 +53,7 @@ its_mailbox config lawful i j script line in_scripts in_script =
       | inl found ↦
           let same : found.0.line ≡ line = same_Some found.0.line line
           (sym (slice_get-map (λ (one : ScriptLine). one.line) script j ∙ ap (option_map (λ (one : ScriptLine). one.line)) found.2) ∙ in_script) in
-          asked config lawful line (subst (λ (l : Line). may_name (Declared (length config.mailboxes)) l ≡ true) same
+          names_mailbox config lawful line (subst (λ (l : Line). may_name (Declared (length config.mailboxes)) l ≡ true) same
           (lawful.named i j script found.0 in_scripts found.2))
       | inr past ↦
           absurd (omega (arith, past.0, slice_get_within (map (λ one. one.line) script) j line in_script, length-map script (λ one. one.line)))
