@@ -23,7 +23,7 @@ use Rattle.vme_mailbox_laws.proofs.lemmas.LinesApart.{left_alone}
 use Rattle.vme_threads.specs.declared.report.Report.{Report}
 use Rattle.vme_threads.specs.OneOrder.{IsReportOfOneOrder}
 use Rattle.vme_run.proofs.lemmas.Lists.{element_at}
-use Rattle.vme_runner.specs.Declared.{IsDeclaredIn}
+use Rattle.vme_runner.specs.DeclaredMailboxes.{IsDeclaredIn}
 use Rattle.vme_runner.proofs.Queues.{IsQueue, queue}
 
 -- the mailbox with number k + 1 is the one at place k

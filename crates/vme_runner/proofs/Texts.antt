@@ -8,7 +8,7 @@ use Rattle.vme_shared.specs.declared.status.Status.{Status}
 use Rattle.vme_script.specs.Lawful.{IsLawful}
 use Rattle.vme_run.specs.RunTexts.{IsRunText}
 use Rattle.vme_engines.proofs.lemmas.Lawful.{read_lawful}
-use Rattle.vme_runner.specs.Declared.{IsDeclaredIn}
+use Rattle.vme_runner.specs.DeclaredMailboxes.{IsDeclaredIn}
 use Rattle.vme_runner.proofs.Queues.{IsQueue}
 use Rattle.vme_runner.proofs.Declared.{declared_queue, has_history}
 

@@ -29,7 +29,7 @@ pub use Rattle.vme_run.specs.RunTexts
 -- Laws.
 pub use Rattle.vme_mailbox_laws.specs.Names
 pub use Rattle.vme_mailbox_laws.specs.Groups
-pub mod Declared
+pub mod DeclaredMailboxes
 pub mod Finished
 pub mod Granted
 pub mod TurnCalls

@@ -17,7 +17,7 @@ ghost use Rattle.vme_threads.specs.declared.report.Report.{Report};
 ghost use Rattle.vme_threads.specs.Rans.{replies_of_lines};
 ghost use Rattle.vme_threads.specs.OneOrder.{IsReportOfOneOrder};
 ghost use Rattle.vme_run.specs.RunTexts.{IsRunText};
-ghost use Rattle.vme_runner.specs.Declared.{IsDeclaredIn};
+ghost use Rattle.vme_runner.specs.DeclaredMailboxes.{IsDeclaredIn};
 
 /// In every report of one order of a lawful configuration, each declared mailbox is a queue. The
 /// part of its board in that order is proper for it. The words taken are a prefix of the words put,
