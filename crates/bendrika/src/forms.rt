@@ -1,57 +1,62 @@
-//! The forms of the command line, as tables.
+//! The command line of the program as tables: its subcommands, and the words that each takes.
 
-/// What a word takes.
+/// What a word of the command line takes.
 #[derive(Clone, Copy)]
 pub(crate) enum Kind {
-    /// One word that has to be there.
-    File,
-    /// One word that may be absent.
-    MayBe,
-    /// One word or more.
-    Files,
-    /// Any number of words.
-    Words,
+    /// A value that has to be there.
+    Required,
+    /// A value that may be absent.
+    Optional,
+    /// One value or more.
+    OneOrMore,
+    /// Any number of values.
+    AnyNumber,
     /// An option without a value.
     Flag,
-    /// An option without a value that has a short name too.
-    Short(char),
-    /// An option without a value that excludes the words of another name.
-    Instead(&'static str),
-    /// An option with a text, which may stand more than once.
-    Text,
-    /// An option with a number, and that number if it is absent.
-    Count(&'static str),
-    /// An option with a number of states, 1 to 100,000,000, and that number if it is absent.
-    States(&'static str),
+    /// An option without a value, with this short name too.
+    ShortFlag(char),
+    /// An option without a value that excludes the word of this name.
+    ExclusiveFlag(&'static str),
+    /// An option with a text. It may occur more than once.
+    Texts,
+    /// An option with a number, which is this one by default.
+    Number(&'static str),
+    /// An option with a number of states, 1 to 100,000,000, which is this one by default.
+    StateCount(&'static str),
 }
 
-/// A word of a form: an option if it has a long name.
+/// A word of a subcommand: a value, or an option.
 #[derive(Clone, Copy)]
 pub(crate) struct Word {
+    /// The name that the program reads it by; of an option also its long name.
     pub(crate) name: &'static str,
+    /// What stands for its value in the help; empty for an option without a value.
     pub(crate) value: &'static str,
     pub(crate) kind: Kind,
+    /// What it is, in one line of the help.
     pub(crate) help: &'static str,
 }
 
-/// A form of the command line.
+/// A subcommand and its words.
 #[derive(Clone, Copy)]
 pub(crate) struct Form {
     pub(crate) name: &'static str,
+    /// What it does, in one line of the help.
     pub(crate) about: &'static str,
+    /// Its exit statuses, the last line of its help.
     pub(crate) status: &'static str,
     pub(crate) words: &'static [Word],
 }
 
-/// A configuration file.
+/// The configuration file of `outcomes`, `page` and `trace`.
 const FILE: Word = Word {
     name: "FILE",
     value: "FILE",
-    kind: Kind::File,
+    kind: Kind::Required,
     help: "A configuration file; - is standard input",
 };
 
-/// The option `--json`.
+/// The option `--json` of `check`, `cycles` and `explain`.
 const JSON: Word = Word {
     name: "json",
     value: "",
@@ -59,15 +64,15 @@ const JSON: Word = Word {
     help: "Print one JSON object a line",
 };
 
-/// The option `--quiet` of a check.
+/// The option `--quiet` of `check` and `cycles`.
 const QUIET: Word = Word {
     name: "quiet",
     value: "",
-    kind: Kind::Short('q'),
+    kind: Kind::ShortFlag('q'),
     help: "Print no finding; the status says whether there is an error",
 };
 
-/// The option `--no-warnings`.
+/// The option `--no-warnings` of `check` and `cycles`.
 const NO_WARNINGS: Word = Word {
     name: "no-warnings",
     value: "",
@@ -75,20 +80,20 @@ const NO_WARNINGS: Word = Word {
     help: "Report errors alone",
 };
 
-/// The option `--limit` of a check.
+/// The option `--limit` of `check` and `cycles`.
 const LIMIT: Word = Word {
     name: "limit",
     value: "N",
-    kind: Kind::Count("100"),
+    kind: Kind::Number("100"),
     help: "Print at most N findings of each input; 0 is no limit",
 };
 
-/// `bendrika check`.
+/// The words of `bendrika check`.
 static CHECK: [Word; 5] = [
     Word {
         name: "FILE",
         value: "FILE",
-        kind: Kind::Files,
+        kind: Kind::OneOrMore,
         help: "Configuration files; - is standard input",
     },
     JSON,
@@ -97,12 +102,12 @@ static CHECK: [Word; 5] = [
     LIMIT,
 ];
 
-/// `bendrika cycles`.
+/// The words of `bendrika cycles`.
 static CYCLES: [Word; 5] = [
     Word {
         name: "FILE",
         value: "FILE",
-        kind: Kind::MayBe,
+        kind: Kind::Optional,
         help: "A file of request lines; - or none is standard input",
     },
     JSON,
@@ -111,70 +116,70 @@ static CYCLES: [Word; 5] = [
     LIMIT,
 ];
 
-/// `bendrika trace`.
+/// The words of `bendrika trace`.
 static TRACE: [Word; 1] = [FILE];
 
-/// `bendrika page`.
+/// The words of `bendrika page`.
 static PAGE: [Word; 2] = [
     FILE,
     Word {
         name: "EVENTS",
         value: "A-B",
-        kind: Kind::MayBe,
+        kind: Kind::Optional,
         help: "Show events A to B, numbered from 1; events 1 to 1000 if not given",
     },
 ];
 
-/// `bendrika explain`.
+/// The words of `bendrika explain`.
 static EXPLAIN: [Word; 3] = [
     Word {
         name: "WORD",
         value: "CODE|REPLY",
-        kind: Kind::Words,
+        kind: Kind::AnyNumber,
         help: "A code as K3, timeout or no-turns, or a line that was printed; none lists all codes",
     },
     Word {
         name: "all",
         value: "",
-        kind: Kind::Instead("WORD"),
+        kind: Kind::ExclusiveFlag("WORD"),
         help: "Print all texts as a table in Markdown",
     },
     JSON,
 ];
 
-/// `bendrika serve`.
+/// The words of `bendrika serve`.
 static SERVE: [Word; 1] = [Word {
     name: "FILE",
     value: "FILE",
-    kind: Kind::File,
+    kind: Kind::Required,
     help: "A configuration file; its scripts, schedule, rounds and tries play no part",
 }];
 
-/// `bendrika outcomes`.
+/// The words of `bendrika outcomes`.
 static OUTCOMES: [Word; 6] = [
     FILE,
     Word {
         name: "never",
         value: "TEXT",
-        kind: Kind::Text,
+        kind: Kind::Texts,
         help: "Fail if some outcome has these lines, separated by ;",
     },
     Word {
         name: "always",
         value: "TEXT",
-        kind: Kind::Text,
+        kind: Kind::Texts,
         help: "Fail if some outcome lacks one of these lines",
     },
     Word {
         name: "quiet",
         value: "",
-        kind: Kind::Short('q'),
+        kind: Kind::ShortFlag('q'),
         help: "Print no outcome, but the conditions and the number of outcomes",
     },
     Word {
         name: "limit",
         value: "N",
-        kind: Kind::States("1000000"),
+        kind: Kind::StateCount("1000000"),
         help: "Explore at most N states",
     },
     Word {
@@ -185,7 +190,7 @@ static OUTCOMES: [Word; 6] = [
     },
 ];
 
-/// Returns the forms of the command line.
+/// Returns the subcommands, in the order in which the help lists them.
 pub(crate) fn forms() -> [Form; 7] {
     [
         Form {

@@ -1,4 +1,4 @@
-//! The words of the command line.
+//! The parser of the command line, made from the tables of `forms`.
 use crate::forms::{Form, Kind, Word, forms};
 use clap::{Arg, ArgAction, Command, value_parser};
 use std::alloc::{AllocError, Global};
@@ -6,10 +6,10 @@ use std::alloc::{AllocError, Global};
 /// The version that `--version` prints: that of the file VERSION.
 const VERSION: &str = "1.0.0";
 
-/// The greatest number of states that the words may say.
+/// The greatest number of states that `--limit` of `outcomes` takes.
 const MOST_STATES: i64 = 100_000_000;
 
-/// Returns the command line of the program.
+/// Returns the parser of the program's words.
 pub(crate) fn program<'a>(alloc: Global) -> Result<Command<'a>, AllocError> {
     let mut program = Command::new(alloc, "bendrika")
         .bin_name("bendrika")?
@@ -23,7 +23,7 @@ pub(crate) fn program<'a>(alloc: Global) -> Result<Command<'a>, AllocError> {
     Ok(program)
 }
 
-/// Returns the subcommand of a form.
+/// Returns the parser of a subcommand.
 fn subcommand<'a>(alloc: Global, form: &Form) -> Result<Command<'a>, AllocError> {
     let mut command = Command::new(alloc, form.name)
         .about(form.about)
@@ -34,57 +34,57 @@ fn subcommand<'a>(alloc: Global, form: &Form) -> Result<Command<'a>, AllocError>
     Ok(command)
 }
 
-/// Returns the argument of a word.
+/// Returns the parser of a word.
 fn argument<'a>(alloc: Global, word: &Word) -> Result<Arg<'a>, AllocError> {
     let named = Arg::new(alloc, word.name).help(word.help);
     match word.kind {
-        Kind::File => Ok(named.value_name(word.value).required(true)),
-        Kind::MayBe => Ok(named.value_name(word.value)),
-        Kind::Files => Ok(
+        Kind::Required => Ok(named.value_name(word.value).required(true)),
+        Kind::Optional => Ok(named.value_name(word.value)),
+        Kind::OneOrMore => Ok(
             named
                 .value_name(word.value)
                 .required(true)
                 .num_args(1..)
                 .action(ArgAction::Append),
         ),
-        Kind::Words => Ok(
+        Kind::AnyNumber => Ok(
             named
                 .value_name(word.value)
                 .num_args(0..)
                 .action(ArgAction::Append),
         ),
         Kind::Flag => Ok(named.long(word.name).action(ArgAction::SetTrue)),
-        Kind::Short(letter) => Ok(
+        Kind::ShortFlag(letter) => Ok(
             named
                 .short(letter)
                 .long(word.name)
                 .action(ArgAction::SetTrue),
         ),
-        Kind::Instead(other) => named
+        Kind::ExclusiveFlag(other) => named
             .long(word.name)
             .action(ArgAction::SetTrue)
             .conflicts_with(other),
-        Kind::Text => Ok(
+        Kind::Texts => Ok(
             named
                 .long(word.name)
                 .value_name(word.value)
                 .action(ArgAction::Append),
         ),
-        Kind::Count(usual) => Ok(
+        Kind::Number(default) => Ok(
             named
                 .long(word.name)
                 .value_name(word.value)
                 .action(ArgAction::Set)
                 .value_parser(value_parser!(usize))
-                .default_value(usual),
+                .default_value(default),
         ),
-        Kind::States(usual) => Ok(
+        Kind::StateCount(default) => Ok(
             named
                 .long(word.name)
                 .value_name(word.value)
                 .action(ArgAction::Set)
                 .value_parser(value_parser!(usize).range(1..=MOST_STATES))
-                .default_value(usual),
+                .default_value(default),
         ),
     }
 }
