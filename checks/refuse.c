@@ -1,5 +1,5 @@
 /* Loaded before the C library: makes calls fail, as the environment says.
-   REFUSE=N   the growth of memory number N, counted from 1, is refused; descriptor REFUSE_ON, or 9, is then told so
+   REFUSE=N   growth of memory number N, counted from 1, is refused; then a line is written to descriptor REFUSE_ON, or 9
    READ=N     standard input gives N bytes and then fails
    WRITE=N    standard output takes N bytes and then fails
    AT_ONCE=N  one call reads or writes at most N bytes of these two */
