@@ -1,9 +1,9 @@
 -- A line of a script as a line task, event by event.
-use Rattle.std.proofs.Common.{◌≡◌, ◌≢◌, ℕ, ◌<◌, List, [], ◌∷◌, ◌++◌, length, Option, Some, None, IfSome, refl, ap, sym, subst, ◌∙◌}
+use Rattle.std.proofs.Common.{◌≡◌, ◌≢◌, ℕ, ◌<◌, [], ◌∷◌, ◌++◌, length, Option, Some, None, IfSome, refl, ap, sym, subst, ◌∙◌}
 use Rattle.std.specs.List.{slice_get}
 use Rattle.vme_core.specs.declared.event.EventReply.{EventReply}
 use Rattle.vme_core.specs.Calls.{Call, call_of}
-use Rattle.vme_core.specs.Runs.{Transition, move}
+use Rattle.vme_core.specs.Runs.{move}
 use Rattle.vme_core.specs.NextSteps.{NotStarted, call_in, result_in}
 use Rattle.vme_shared.specs.declared.reply.LineReply.{LineReply}
 use Rattle.vme_grammar.specs.declared.line.Line.{Line}
@@ -11,9 +11,8 @@ use Rattle.vme_script.specs.Configurations.{Configuration}
 use Rattle.vme_line_task.specs.declared.task.LineTask.{LineTask}
 use Rattle.vme_line_task.specs.Scripts.{lines_at}
 use Rattle.vme_line_task.specs.Tables.{line_next}
-use Rattle.vme_line_task.specs.Machine.{line_started, line_advance, line_to_do, line_after, IsLineBelow}
+use Rattle.vme_line_task.specs.Machine.{line_started, line_advance, line_to_do, IsLineBelow}
 use Rattle.vme_line_task.specs.Events.{IsCallBelow}
-use Rattle.vme_line_task.specs.Traces.{Continues}
 use Rattle.vme_line_task.proofs.lemmas.Lines.{by_the_replies}
 use Rattle.vme_core.proofs.lemmas.NextSteps.{in_makes, ends_so}
 use Rattle.vme_line_task.proofs.lemmas.Below.{calls_below}
@@ -21,22 +20,11 @@ use Rattle.vme_line_task.proofs.lemmas.Traces.{goes-snoc}
 use Rattle.vme_master.specs.Callers.{HasCalled, AdvancesBy}
 use Rattle.vme_threads.specs.declared.processor_pass.ProcessorPass.{ProcessorPass}
 use Rattle.vme_threads.specs.declared.ports.Ports.{Ports}
-use Rattle.vme_threads.specs.ProcessorPasses.{MatchesPorts, AddsTransitions, AddsCall}
+use Rattle.vme_threads.specs.ProcessorPasses.{MatchesPorts, AddsCall}
+use Rattle.vme_threads.specs.Progress.{IsLineInProgress}
 use Rattle.vme_threads.specs.Rans.{AddsLine}
 use Rattle.vme_threads.proofs.Places.{element_at}
 use Rattle.vme_threads.proofs.ProcessorPasses.{made_none, made_more, fits_after}
-
--- the line at a place of the script is in progress: a run of its events was made, and `task` is the line's task after them
-pub record IsLineInProgress (config : Configuration) (place : ℕ) (before now : ProcessorPass) (task : LineTask) : Type 0 where
-  pub line : Line
-  pub there : slice_get (lines_at config before.who) place ≡ Some line
-  pub run : List Transition
-  pub made : AddsTransitions run before now
-  pub replies : List EventReply
-  pub goes : Continues config before.who line [] run replies
-  pub is : task ≡ line_after config before.who line replies
-  pub begun : line_to_do task ≢ NotStarted
-  pub below : IsLineBelow (length config.boards) task
 
 -- a line is in progress when its task has started, before its first event
 pub line_start :
@@ -110,19 +98,32 @@ pub call_there : (n : ℕ) (task : LineTask) (call : Call) → IsLineBelow n tas
     → IsCallBelow n call
 call_there n task call below is = calls_below n task call below (in_makes (line_to_do task) call is)
 
--- the next call of a line in progress can be made
+-- the next call of a line whose boards exist can be made
 pub line_can :
-    (config : Configuration) (ports : Ports) (place : ℕ) (d e : ProcessorPass) (task : LineTask) → MatchesPorts ports d
-    → d.boards ≡ length config.boards → IsLineInProgress config place d e task
+    (ports : Ports) (e : ProcessorPass) (task : LineTask) → MatchesPorts ports e → IsLineBelow e.boards task
     → IfSome (call_in (line_to_do task)) (λ call. MatchesPorts ports e × IsCallBelow e.boards call)
-line_can config ports place d e task fits same at = by (call_in (line_to_do task)) refl
+line_can ports e task fits below = by (call_in (line_to_do task)) refl
   where
     by : (asked : Option Call) → asked ≡ call_in (line_to_do task)
         → IfSome asked (λ call. MatchesPorts ports e × IsCallBelow e.boards call)
     by None is = tt
-    by (Some call) is = (
-      fits_after ports at.run d e at.made fits,
-      subst (λ n. IsCallBelow n call) (sym (at.made.boards ∙ same)) (call_there (length config.boards) task call at.below is),
+    by (Some call) is = (fits, call_there e.boards task call below is)
+
+-- after the next call of a line, if it has one, the pass is of the same ports and the line's boards exist
+pub line_fits :
+    (ports : Ports) (e f : ProcessorPass) (task new : LineTask) → MatchesPorts ports e → IsLineBelow e.boards task
+    → AdvancesBy AddsCall line_to_do line_advance e f task new → ((n : ℕ) → IsLineBelow n task → IsLineBelow n new)
+    → MatchesPorts ports f × IsLineBelow f.boards new
+line_fits ports e f task new fits there it below = by (call_in (line_to_do task)) it.step
+  where
+    by : (asked : Option Call) → HasCalled AddsCall line_advance asked e f task new → MatchesPorts ports f × IsLineBelow f.boards new
+    by None step = (
+      subst (MatchesPorts ports) (sym step.0) fits,
+      subst (λ (x : ProcessorPass). IsLineBelow x.boards new) (sym step.0) (below e.boards there),
+    )
+    by (Some call) step = (
+      fits_after ports _ e f step.1.made fits,
+      subst (λ n. IsLineBelow n new) (sym step.1.made.boards) (below e.boards there),
     )
 
 -- a line is still in progress after its next call, if it has one

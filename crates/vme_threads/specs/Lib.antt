@@ -2,6 +2,7 @@ pub mod RunBuffers
 pub mod Settlements
 pub mod Ports
 pub mod ProcessorPasses
+pub mod Progress
 pub mod Rans
 pub mod Reports
 pub mod OneOrder

@@ -1,11 +1,16 @@
-ghost use Rattle.std.specs.Prelude.{◌≡◌, ◌<◌, ◌≤◌, ◌∷◌, [], length, slice_get, Some, IfOk};
+ghost use Rattle.std.specs.Prelude.{◌≡◌, ◌<◌, ◌≤◌, ◌∷◌, [], ℕ, length, slice_get, Some, IfOk, IsSome};
 ghost use Rattle.vme_core.specs.declared.event.Event.TheVariants as events;
 ghost use Rattle.vme_core.specs.declared.event.EventReply.TheVariants as replies;
+ghost use Rattle.vme_core.specs.NextSteps.{result_in};
 ghost use Rattle.vme_core.specs.Runs.{move};
 ghost use Rattle.vme_grammar.specs.declared.line.Line.{Line};
+ghost use Rattle.vme_line_task.specs.Machine.{line_to_do, IsLineBelow};
 ghost use Rattle.vme_line_task.specs.ReadBuffers.{line_read_len};
 ghost use Rattle.vme_line_task.specs.Scripts.{lines_at};
+ghost use Rattle.vme_script.specs.Configurations.{Configuration};
+ghost use Rattle.vme_threads.specs.declared.processor_pass.ProcessorPass.{ProcessorPass as AnyPass};
 ghost use Rattle.vme_threads.specs.ProcessorPasses.{MatchesPorts, AddsTransitions};
+ghost use Rattle.vme_threads.specs.Progress.{IsLineInProgress};
 ghost use Rattle.vme_threads.specs.Rans.{AddsLine};
 
 use crate::ports::Ports;
@@ -129,20 +134,42 @@ impl ProcessorPass {
             line_read_len one ≤ buffer.capacity }
         ensures { IfOk result (λ answer. AddsLine config.now line answer self.old self.new) }
     {
-        let backoff = Backoff::new();
-        let context = CallContext { rt, ports };
         let mut task = LineTask::start(config, self.who, line, buffer);
         task.advance(None);
         if task.is_finished() {
             return Ok(task.into_reply().unwrap());
         }
+        self.finish_line(rt, ports, &mut task)?;
+        Ok(task.into_reply().unwrap())
+    }
+
+    /// Performs the events of a line that has begun until it has ended. It pauses before each
+    /// further attempt, unless there is no other processor.
+    ///
+    /// # Errors
+    /// `Spent` if an object has made 2^64 - 1 steps, or if the workers of these ports have to stop.
+    fn finish_line<R: Wait>(
+        &mut self,
+        rt: &R,
+        ports: &Ports,
+        task: &mut LineTask<'_>,
+    ) -> Result<(), Spent>
+        requires fits { MatchesPorts ports.now self.old }
+        requires below { IsLineBelow self.old.boards task.old }
+        ensures ended { IfOk result (λ _. IsSome (result_in (line_to_do task.new))) }
+        ensures progress { (config : Configuration) (place : ℕ) (before : AnyPass) →
+            IsLineInProgress config place before self.old task.old →
+            IfOk result (λ _. IsLineInProgress config place before self.new task.new) }
+    {
+        let backoff = Backoff::new();
+        let context = CallContext { rt, ports };
         for _ in rt.forever() {
             if ports.stop.load(Ordering::SeqCst) {
                 return Err(Spent);
             }
             let attempts = task.attempts_left();
             if task.step_by(self, &context)? {
-                return Ok(task.into_reply().unwrap());
+                return Ok(());
             }
             self.pause(&backoff, attempts, task.attempts_left());
         }

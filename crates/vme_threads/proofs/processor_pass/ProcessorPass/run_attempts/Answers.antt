@@ -1,23 +1,13 @@
-use Rattle.std.proofs.Common.{length}
-use Rattle.vme_threads.proofs.Lines.{line_start, line_end, line_can, line_called}
+use Rattle.std.proofs.Common.{length, subst, sym}
+use Rattle.vme_line_task.specs.Machine.{IsLineBelow}
+use Rattle.vme_threads.proofs.Lines.{line_start, line_end}
 use Rattle.vme_threads.proofs.processor_pass.ProcessorPass.run_attempts.Goals as goal
 
-pub loop-init : goal.loop-init
-loop-init g c =
-    line_start c.args.config.now c.args.line c.args.self.now c.start-task.result c.advance.new.self c.requires.line
-    c.start-task.ensures.line
-    c.advance.ensures.task c.advance.ensures.begun
+-- the boards that the line's task can call exist
+pub finish_line-requires-clause-below : goal.finish_line-requires-clause-below
+finish_line-requires-clause-below g c =
+    subst (λ n. IsLineBelow n c.advance.new.self) (sym c.requires.boards)
     (c.advance.ensures.below (length c.args.config.now.boards) c.start-task.ensures.there)
-
-pub step_by-requires : goal.step_by-requires
-step_by-requires g c =
-    line_can c.args.config.now c.args.ports.now c.args.line c.args.self.now c.loop.self c.loop.task c.requires.fits c.requires.boards
-    c.loop.invariant
-
-pub loop-preserved : goal.loop-preserved
-loop-preserved g c =
-    line_called c.args.config.now c.args.line c.args.self.now c.loop.self c.step_by.new.caller c.loop.task c.step_by.new.self
-    c.loop.invariant c.in_ok-step_by.ensures.step c.in_ok-step_by.ensures.below
 
 pub returns-then-is_finished : goal.returns-then-is_finished
 returns-then-is_finished g c =
@@ -28,9 +18,12 @@ returns-then-is_finished g c =
     (c.advance.ensures.below (length c.args.config.now.boards) c.start-task.ensures.there))
     (rw c.unwrap.ensures at c.into_reply.ensures)
 
-pub returns-then-branch : goal.returns-then-branch
-returns-then-branch g c =
-    line_end c.args.config.now c.args.line c.args.self.now c.step_by.new.caller c.step_by.new.self c.unwrap-then-branch.result
-    (line_called c.args.config.now c.args.line c.args.self.now c.loop.self c.step_by.new.caller c.loop.task c.step_by.new.self
-    c.loop.invariant c.in_ok-step_by.ensures.step c.in_ok-step_by.ensures.below)
-    (rw c.unwrap-then-branch.ensures at c.into_reply-then-branch.ensures)
+pub returns : goal.returns
+returns g c =
+    line_end c.args.config.now c.args.line c.args.self.now c.finish_line.new.self c.finish_line.new.task c.unwrap-2.result
+    (c.in_ok-finish_line.ensures.progress c.args.config.now c.args.line c.args.self.now
+    (line_start c.args.config.now c.args.line c.args.self.now c.start-task.result c.advance.new.self c.requires.line
+    c.start-task.ensures.line
+    c.advance.ensures.task c.advance.ensures.begun
+    (c.advance.ensures.below (length c.args.config.now.boards) c.start-task.ensures.there)))
+    (rw c.unwrap-2.ensures at c.into_reply-2.ensures)
