@@ -17,7 +17,7 @@ mod schedule;
 mod warning;
 
 use crate::report::{Context, Input, Located};
-use crate::texts::help::{Help, push_help};
+use crate::texts::help::{Help, no_help, push_help};
 use crate::texts::message::{Message, plain, push_message};
 use crate::texts::names::number_of;
 use std::alloc::AllocError;
@@ -34,16 +34,16 @@ pub(crate) fn write_message(
     context: &Context<'_>,
     to: &mut String,
 ) -> Result<(), AllocError> {
-    push_message(&message_of(cause, context), to)?;
+    push_message(&message_of(cause, context), context.word, to)?;
     to.push_str(ending_of(cause))
 }
 
 /// The message of a cause, without its ending.
-fn message_of<'a>(cause: Cause, context: &Context<'a>) -> Message<'a> {
+fn message_of(cause: Cause, context: &Context<'_>) -> Message {
     match cause {
         Cause::Document(cause) => document::message_of(cause, context),
-        Cause::Board(cause) => board::message_of(cause, context),
-        Cause::Schedule(cause) => schedule::message_of(cause, context),
+        Cause::Board(cause) => board::message_of(cause),
+        Cause::Schedule(cause) => schedule::message_of(cause),
         Cause::Mailbox(cause) => mailbox::message_of(cause, context),
         Cause::Script { cause, .. } | Cause::RequestLine(cause) => line::message_of(cause, context),
         Cause::Refused(_) => refused::message_of(cause),
@@ -79,7 +79,7 @@ pub(crate) fn write_help(
 }
 
 /// The help of a cause.
-fn help_of<'a>(cause: Cause, context: &Context<'a>) -> Help<'a> {
+fn help_of(cause: Cause, context: &Context<'_>) -> Help {
     match cause {
         Cause::Document(cause) => document::help_of(cause, context),
         Cause::Board(cause) => board::help_of(cause, context),
@@ -89,7 +89,7 @@ fn help_of<'a>(cause: Cause, context: &Context<'a>) -> Help<'a> {
         Cause::File(warning) => warning::help_of(warning),
         Cause::Line { warning, .. } => warning::line_help(warning),
         Cause::RequestCycle(cause) => cycle::help_of(cause),
-        Cause::Refused(_) | Cause::RequestBoard => Help::None,
+        Cause::Refused(_) | Cause::RequestBoard => no_help(),
     }
 }
 
@@ -108,11 +108,11 @@ pub(crate) fn note_offset(input: &Input<'_>, one: &Located) -> Option<usize> {
 ///
 /// An allocation failed.
 pub(crate) fn write_note(cause: Cause, to: &mut String) -> Result<(), AllocError> {
-    push_message(&note_of(cause), to)
+    push_message(&note_of(cause), &[], to)
 }
 
 /// The text of the note of a cause.
-fn note_of(cause: Cause) -> Message<'static> {
+fn note_of(cause: Cause) -> Message {
     match cause {
         Cause::Document(cause) => document::note_of(cause),
         Cause::Board(cause) => board::note_of(cause),

@@ -1,13 +1,13 @@
 //! The texts of faults of a board.
 use crate::report::Context;
-use crate::texts::help::Help;
+use crate::texts::help::{Help, no_help, says};
 use crate::texts::message::{Message, Value, plain, with, with_three, with_two};
 use crate::texts::names::{board_name, space_name};
 use crate::texts::quote::without_quotes;
 use vme_faults::BoardCause;
 
 /// The message of a cause.
-pub(crate) fn message_of<'a>(cause: BoardCause, context: &Context<'a>) -> Message<'a> {
+pub(crate) fn message_of(cause: BoardCause) -> Message {
     match cause {
         BoardCause::SlotRange { slot } => with(
             "slot {}; a backplane has slots 1 to 21",
@@ -27,7 +27,7 @@ pub(crate) fn message_of<'a>(cause: BoardCause, context: &Context<'a>) -> Messag
         ),
         BoardCause::NoSpace => with(
             "{} is not an address space; `a16`, `a24` and `a32` are",
-            Value::Quoted(without_quotes(context.word)),
+            Value::QuotedText,
         ),
         BoardCause::NoWidth { width } => with(
             "width {}; a slave has 8, 16 or 32 data lines",
@@ -77,24 +77,24 @@ pub(crate) fn message_of<'a>(cause: BoardCause, context: &Context<'a>) -> Messag
 }
 
 /// The help of a cause.
-pub(crate) fn help_of(cause: BoardCause, context: &Context<'_>) -> Help<'static> {
+pub(crate) fn help_of(cause: BoardCause, context: &Context<'_>) -> Help {
     match cause {
         BoardCause::NoSpace => match without_quotes(context.word) {
-            b"A16" => Help::Says(plain("write \"a16\"")),
-            b"A24" => Help::Says(plain("write \"a24\"")),
-            b"A32" => Help::Says(plain("write \"a32\"")),
-            _ => Help::None,
+            b"A16" => says(plain("write \"a16\"")),
+            b"A24" => says(plain("write \"a24\"")),
+            b"A32" => says(plain("write \"a32\"")),
+            _ => no_help(),
         },
         BoardCause::SizeNotAligned { size } => {
             let next = u64::from(size / 4).saturating_add(1).saturating_mul(4);
-            Help::Says(with("the next multiple is {}", Value::Number(next)))
+            says(with("the next multiple is {}", Value::Number(next)))
         }
-        _ => Help::None,
+        _ => no_help(),
     }
 }
 
 /// The text of the note at the other board.
-pub(crate) fn note_of(cause: BoardCause) -> Message<'static> {
+pub(crate) fn note_of(cause: BoardCause) -> Message {
     match cause {
         BoardCause::SlotTaken { slot, .. } => {
             with("slot {} is here", Value::Number(u64::from(slot)))

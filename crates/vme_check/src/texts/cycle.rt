@@ -1,11 +1,11 @@
 //! The texts of refusals of requests, K1 to K9.
-use crate::texts::help::Help;
+use crate::texts::help::{Help, no_help, says};
 use crate::texts::message::{Message, Value, with, with_three, with_two};
 use crate::texts::names::space_name;
 use vme_faults::CycleCause;
 
 /// The message of a cause.
-pub(crate) fn message_of(cause: CycleCause) -> Message<'static> {
+pub(crate) fn message_of(cause: CycleCause) -> Message {
     match cause {
         CycleCause::NoCode { am } => with(
             "code {} is above 3f: an address modifier has six bits",
@@ -89,19 +89,19 @@ pub(crate) fn message_of(cause: CycleCause) -> Message<'static> {
 }
 
 /// The help of a cause.
-pub(crate) fn help_of(cause: CycleCause) -> Help<'static> {
+pub(crate) fn help_of(cause: CycleCause) -> Help {
     match cause {
         CycleCause::BlockCode { am } | CycleCause::ProgramModify { am } => code_help(data_code(am)),
         CycleCause::NoBlockCode { am } => code_help(block_code(am)),
-        _ => Help::None,
+        _ => no_help(),
     }
 }
 
 /// The help to write a code, if there is one.
-fn code_help(code: Option<u8>) -> Help<'static> {
+fn code_help(code: Option<u8>) -> Help {
     match code {
-        Some(code) => Help::Says(with("write {}", Value::Code(u32::from(code)))),
-        None => Help::None,
+        Some(code) => says(with("write {}", Value::Code(u32::from(code)))),
+        None => no_help(),
     }
 }
 

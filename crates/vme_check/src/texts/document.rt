@@ -1,20 +1,20 @@
 //! The texts of faults of a file as a document.
 use crate::report::{Context, Input};
-use crate::texts::help::Help;
+use crate::texts::help::{Help, no_help, says, similar_key, unknown_key};
 use crate::texts::message::{Message, Value, plain, with, with_three, with_two};
-use crate::texts::names::{keys_of, number_of, other_word, table_name};
+use crate::texts::names::{keys_of, number_of, table_name};
 use memchr::memmem;
 use toml::de::Error;
 use vme_faults::{DocumentCause, ValueKind};
 use vme_positions::{Key, Place, Span, TableName};
 
 /// The message of a cause.
-pub(crate) fn message_of<'a>(cause: DocumentCause, context: &Context<'a>) -> Message<'a> {
+pub(crate) fn message_of(cause: DocumentCause, context: &Context<'_>) -> Message {
     match cause {
         DocumentCause::NotToml { error } => toml_message(error, context.word),
         DocumentCause::UnknownKey => with_two(
             "unknown key {} of {}",
-            Value::Quoted(context.word),
+            Value::Quoted,
             Value::Word(table_name(table_of(context.place))),
         ),
         DocumentCause::MissingKey { key } => with_two(
@@ -50,7 +50,7 @@ pub(crate) fn message_of<'a>(cause: DocumentCause, context: &Context<'a>) -> Mes
 }
 
 /// The message about an element that is no pair, and about this many elements after it.
-fn not_pair(subject: Value<'static>, more: u64) -> Message<'static> {
+fn not_pair(subject: Value, more: u64) -> Message {
     match more {
         0 => with("{} is not a pair [slot, turns]", subject),
         1 => with("{} is not a pair [slot, turns] (nor is 1 more)", subject),
@@ -63,7 +63,7 @@ fn not_pair(subject: Value<'static>, more: u64) -> Message<'static> {
 }
 
 /// The message about an element that is no table, and about this many elements after it.
-fn not_table(subject: Value<'static>, found: ValueKind, more: u64) -> Message<'static> {
+fn not_table(subject: Value, found: ValueKind, more: u64) -> Message {
     let found = Value::Word(kind_name(found));
     match more {
         0 => with_two("{} is {}, not a table", subject, found),
@@ -79,18 +79,18 @@ fn not_table(subject: Value<'static>, found: ValueKind, more: u64) -> Message<'s
 
 /// The message of an error of TOML at a word. The one about an invalid value lists all kinds of
 /// values, so a message that quotes the word stands in its place.
-fn toml_message(error: Error, word: &[u8]) -> Message<'_> {
+fn toml_message(error: Error, word: &[u8]) -> Message {
     if !error.message().starts_with("invalid value") {
         return with("not TOML: {}", Value::Toml(error));
     }
     if word.is_empty() {
         return plain("not TOML: a value is missing here");
     }
-    with("not TOML: {} is not a value", Value::Quoted(word))
+    with("not TOML: {} is not a value", Value::Quoted)
 }
 
 /// The subject of a message about a value: the key, or the element of an array.
-fn subject_of(place: Place) -> Value<'static> {
+fn subject_of(place: Place) -> Value {
     match place {
         Place::Key { key, .. } | Place::Value { key, .. } => Value::Key(key.name()),
         Place::Element { key, index } => { Value::Element("element", number_of(index), key.name()) }
@@ -107,49 +107,44 @@ fn subject_of(place: Place) -> Value<'static> {
 }
 
 /// The help of a cause.
-pub(crate) fn help_of<'a>(cause: DocumentCause, context: &Context<'a>) -> Help<'a> {
+pub(crate) fn help_of(cause: DocumentCause, context: &Context<'_>) -> Help {
     match cause {
         DocumentCause::NotToml { .. } => toml_help(context.word),
         DocumentCause::UnknownKey => key_help(table_of(context.place), context.word),
-        DocumentCause::MissingKey { key } => Help::Missing(key),
+        DocumentCause::MissingKey { key } => unknown_key(key),
         DocumentCause::WrongKind { found, wanted } => kind_help(found, wanted, context.place),
-        DocumentCause::NotPair { .. } => Help::Says(plain("write schedule = [[1, 3], [2, 3]]")),
-        DocumentCause::NoBoard => Help::Says(plain("a file has 1 to 21 tables [[board]]")),
+        DocumentCause::NotPair { .. } => says(plain("write schedule = [[1, 3], [2, 3]]")),
+        DocumentCause::NoBoard => says(plain("a file has 1 to 21 tables [[board]]")),
         DocumentCause::OutOfRange { .. }
         | DocumentCause::NotTable { .. }
-        | DocumentCause::TooManyBoards { .. } => Help::None,
+        | DocumentCause::TooManyBoards { .. } => no_help(),
     }
 }
 
 /// The help for a value of one kind in place of another.
-fn kind_help(found: ValueKind, wanted: ValueKind, place: Place) -> Help<'static> {
+fn kind_help(found: ValueKind, wanted: ValueKind, place: Place) -> Help {
     match (found, wanted) {
-        (ValueKind::Text, ValueKind::Whole) => {
-            Help::Says(plain("write the number without quotes"))
-        }
-        (_, ValueKind::Truth) => Help::Says(plain("write true or false, without quotes")),
-        (ValueKind::Table, ValueKind::Array) => Help::Says(plain(match place {
+        (ValueKind::Text, ValueKind::Whole) => { says(plain("write the number without quotes")) }
+        (_, ValueKind::Truth) => says(plain("write true or false, without quotes")),
+        (ValueKind::Table, ValueKind::Array) => says(plain(match place {
             Place::Value {
                 key: Key::Mailbox,
                 ..
             } => "write [[mailbox]] with two brackets",
             _ => "write [[board]] with two brackets",
         })),
-        _ => Help::None,
+        _ => no_help(),
     }
 }
 
 /// The help for an unknown key: the table that has it, or a key with a similar name.
-fn key_help(table: TableName, word: &[u8]) -> Help<'_> {
+fn key_help(table: TableName, word: &[u8]) -> Help {
     for other in [TableName::File, TableName::Board, TableName::Mailbox] {
         if other != table && is_key(other, word) {
-            return Help::Says(with(elsewhere(other), Value::Quoted(word)));
+            return says(with(elsewhere(other), Value::Quoted));
         }
     }
-    Help::Similar {
-        names: keys_of(table),
-        otherwise: other_word(table, word),
-    }
+    similar_key(table)
 }
 
 /// The text about a key that belongs to another table.
@@ -169,46 +164,32 @@ fn is_key(table: TableName, word: &[u8]) -> bool {
 }
 
 /// The help for a word that is not a TOML value.
-fn toml_help(word: &[u8]) -> Help<'_> {
+fn toml_help(word: &[u8]) -> Help {
     if word.eq_ignore_ascii_case(b"true") || word.eq_ignore_ascii_case(b"false") {
-        return Help::Says(plain("write true or false in small letters"));
+        return says(plain("write true or false in small letters"));
     }
     if let Some(digits) = word.strip_prefix(b"0")
         && !digits.is_empty()
         && digits.len() <= 8
         && digits.iter().all(|byte| byte.is_ascii_hexdigit())
     {
-        return Help::Says(zero_help(word, digits));
+        return says(zero_help(digits));
     }
     let is_word = word.first().is_some_and(|byte| byte.is_ascii_alphabetic())
         && word.iter().all(|byte| byte.is_ascii_alphanumeric());
     if is_word && word.len() <= 16 {
-        return Help::Says(with("write \"{}\" if a string is meant", Value::Chars(word)));
+        return says(with("write \"{}\" if a string is meant", Value::Chars));
     }
-    Help::None
+    no_help()
 }
 
 /// The help for a number with a leading zero, whose other digits are these.
-fn zero_help<'a>(word: &'a [u8], digits: &'a [u8]) -> Message<'a> {
+fn zero_help(digits: &[u8]) -> Message {
     if digits.iter().all(|byte| byte.is_ascii_digit()) {
-        with_two(
-            "write {} or `0x{}`",
-            Value::Quoted(without_zeros(digits)),
-            Value::Chars(word),
-        )
+        with_two("write {} or `0x{}`", Value::QuotedNumber, Value::Chars)
     } else {
-        with("write `0x{}`", Value::Chars(word))
+        with("write `0x{}`", Value::Chars)
     }
-}
-
-/// Digits without leading zeros; `0` if all of them are zeros.
-fn without_zeros(digits: &[u8]) -> &[u8] {
-    for (at, byte) in digits.iter().enumerate() {
-        if *byte != b'0' {
-            return digits.get(at..).unwrap_or(digits);
-        }
-    }
-    b"0"
 }
 
 /// The offset of the note of a cause: where a repeated key stands first, or the quotes that open a
@@ -233,7 +214,7 @@ pub(crate) fn note_offset(cause: DocumentCause, input: &Input<'_>, span: Span) -
 }
 
 /// The text of the note of a cause.
-pub(crate) fn note_of(cause: DocumentCause) -> Message<'static> {
+pub(crate) fn note_of(cause: DocumentCause) -> Message {
     match cause {
         DocumentCause::NotToml { error } if is_repeated_key(error) => plain(
             "the key is first here",

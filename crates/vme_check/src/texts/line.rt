@@ -1,16 +1,17 @@
 //! The texts of refusals of lines, S1 to S9.
 use crate::report::Context;
-use crate::texts::help::Help;
+use crate::texts::help::{Help, no_help, says, similar_command, similar_function};
 use crate::texts::message::{Message, Value, plain, with, with_three, with_two};
-use crate::texts::names::{FUNCTIONS, LONG_COMMANDS, board_name, number_of, short_command};
+use crate::texts::names::{board_name, number_of, short_command};
+use crate::texts::quote::without_prefix;
 use vme_faults::{DataLength, LineCause, LineForm};
 
 /// The number of digits of an address.
 const ADDRESS_DIGITS: usize = 8;
 
 /// The message of a cause.
-pub(crate) fn message_of<'a>(cause: LineCause, context: &Context<'a>) -> Message<'a> {
-    let word = Value::Quoted(context.word);
+pub(crate) fn message_of(cause: LineCause, context: &Context<'_>) -> Message {
+    let word = Value::Quoted;
     match cause {
         LineCause::TooLong { bytes } => with(
             "the line has {} bytes; a line has at most 80",
@@ -70,7 +71,7 @@ pub(crate) fn message_of<'a>(cause: LineCause, context: &Context<'a>) -> Message
             form,
             found,
             wanted,
-        } => wrong_length(form, Value::Count(found as u64, "byte"), wanted, word),
+        } => wrong_length(form, Value::Count(found as u64, "byte"), wanted),
         LineCause::TooManyLines { lines } => with(
             "the script has {} lines; a script has at most 1000",
             Value::Number(lines as u64),
@@ -98,25 +99,17 @@ pub(crate) fn message_of<'a>(cause: LineCause, context: &Context<'a>) -> Message
 
 /// The message about an address or an offset: that it has another number of digits, if it has
 /// digits alone, or else that it is not a number.
-fn address_message<'a>(
-    no_number: &'static str,
-    other_count: &'static str,
-    word: &'a [u8],
-) -> Message<'a> {
+fn address_message(no_number: &'static str, other_count: &'static str, word: &[u8]) -> Message {
     let digits = word.len() as u64;
     if are_hex_digits(word) {
-        with_two(
-            other_count,
-            Value::Quoted(word),
-            Value::Count(digits, "digit"),
-        )
+        with_two(other_count, Value::Quoted, Value::Count(digits, "digit"))
     } else {
-        with(no_number, Value::Quoted(word))
+        with(no_number, Value::Quoted)
     }
 }
 
 /// The message that a mailbox is not declared, by how many are.
-fn no_mailbox(number: Value<'static>, declared: u64) -> Message<'static> {
+fn no_mailbox(number: Value, declared: u64) -> Message {
     match declared {
         0 => with("mailbox {} is not declared; the file declares none", number),
         1 => with("mailbox {} is not declared; the file declares 1", number),
@@ -129,12 +122,7 @@ fn no_mailbox(number: Value<'static>, declared: u64) -> Message<'static> {
 }
 
 /// The message about how many bytes a word is, and how many the command takes.
-fn wrong_length<'a>(
-    form: LineForm,
-    found: Value<'a>,
-    wanted: DataLength,
-    word: Value<'a>,
-) -> Message<'a> {
+fn wrong_length(form: LineForm, found: Value, wanted: DataLength) -> Message {
     let command = Value::Word(command_of(form));
     match wanted {
         DataLength::Exactly(count) => Message {
@@ -144,7 +132,7 @@ fn wrong_length<'a>(
                 "{} is {}; `{}` takes {}"
             },
             values: [
-                word,
+                Value::Quoted,
                 found,
                 command,
                 Value::Count(u64::from(count), "byte"),
@@ -152,14 +140,24 @@ fn wrong_length<'a>(
                 Value::None,
             ],
         },
-        DataLength::UpTo8 => with_three("{} is {}; `{}` takes 1 to 8 bytes", word, found, command),
+        DataLength::UpTo8 => with_three(
+            "{} is {}; `{}` takes 1 to 8 bytes",
+            Value::Quoted,
+            found,
+            command,
+        ),
         DataLength::PowerOfTwo => {
-            with_three("{} is {}; `{}` takes 1, 2 or 4 bytes", word, found, command)
+            with_three(
+                "{} is {}; `{}` takes 1, 2 or 4 bytes",
+                Value::Quoted,
+                found,
+                command,
+            )
         }
         DataLength::Any => {
             with_three(
                 "{} is {}; `{}` takes one byte or more",
-                word,
+                Value::Quoted,
                 found,
                 command,
             )
@@ -168,73 +166,61 @@ fn wrong_length<'a>(
 }
 
 /// The help of a cause.
-pub(crate) fn help_of<'a>(cause: LineCause, context: &Context<'a>) -> Help<'a> {
+pub(crate) fn help_of(cause: LineCause, context: &Context<'_>) -> Help {
     let word = context.word;
     match cause {
         LineCause::TooLong { .. } => match context.line {
-            [b'#', ..] => Help::Says(plain(
-                "split the comment into several lines, each with its own #",
-            )),
-            [b'b', b'w', b' ', ..] => Help::Says(plain(
+            [b'#', ..] => says(plain("split the comment into several lines, each with its own #")),
+            [b'b', b'w', b' ', ..] => says(plain(
                 "split the block: `bw .. 4 HEX` carries at most 28 bytes in a line",
             )),
-            _ => Help::None,
+            _ => no_help(),
         },
         LineCause::UnknownCommand => command_help(word),
-        LineCause::IndentedComment => Help::Says(plain("remove the spaces before #")),
-        LineCause::UnknownFunction => Help::Similar {
-            names: FUNCTIONS.as_slice(),
-            otherwise: None,
-        },
+        LineCause::IndentedComment => says(plain("remove the spaces before #")),
+        LineCause::UnknownFunction => similar_function(),
         LineCause::WordCount { wanted, found, .. } => {
             if wanted < found && matches!(word, [b'#' | b';' | b'/', ..]) {
-                Help::Says(plain("a comment needs a line of its own"))
+                says(plain("a comment needs a line of its own"))
             } else {
-                Help::None
+                no_help()
             }
         }
         LineCause::BadCode => padded_help(word, 2),
         LineCause::BadAddress | LineCause::BadOffset => padded_help(word, ADDRESS_DIGITS),
         LineCause::OddDigits { digits } => padded_help(word, digits.saturating_add(1)),
-        LineCause::TouchesMailbox { .. } => Help::Says(plain(
+        LineCause::TouchesMailbox { .. } => says(plain(
             "only put and take may access the bytes of a mailbox",
         )),
-        _ => Help::None,
+        _ => no_help(),
     }
 }
 
 /// The help for a word that is not a command.
-fn command_help(word: &[u8]) -> Help<'static> {
+fn command_help(word: &[u8]) -> Help {
     if word.contains(&b'\t') {
-        return Help::Says(plain("spaces separate words; here is a tab"));
+        return says(plain("spaces separate words; here is a tab"));
     }
     if matches!(word, [b';', ..] | [b'/', b'/', ..] | [b'-', b'-', ..]) {
-        return Help::Says(plain("a comment is a line that begins with #"));
+        return says(plain("a comment is a line that begins with #"));
     }
     if let Some(command) = short_command(word) {
-        return Help::Says(with("did you mean `{}`?", Value::Word(command)));
+        return says(with("did you mean {}?", Value::Key(command)));
     }
     if word.len() < 3 {
-        return Help::None;
+        return no_help();
     }
-    Help::Similar {
-        names: LONG_COMMANDS.as_slice(),
-        otherwise: None,
-    }
+    similar_command()
 }
 
 /// The help to write zeros before the digits of a word, if it is hexadecimal and has fewer digits
 /// than it takes, with or without `0x`.
-fn padded_help(word: &[u8], digits: usize) -> Help<'_> {
-    let bare = word.strip_prefix(b"0x").unwrap_or(word);
+fn padded_help(word: &[u8], digits: usize) -> Help {
+    let bare = without_prefix(word);
     if bare.is_empty() || digits < bare.len() || !are_hex_digits(bare) {
-        return Help::None;
+        return no_help();
     }
-    Help::Says(with_two(
-        "write `{}{}`",
-        Value::Zeros(digits - bare.len()),
-        Value::Chars(bare),
-    ))
+    says(with("write `{}`", Value::Padded(digits - bare.len())))
 }
 
 fn are_hex_digits(word: &[u8]) -> bool {

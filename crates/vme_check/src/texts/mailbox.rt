@@ -1,13 +1,13 @@
 //! The texts of faults of a mailbox.
 use crate::report::Context;
-use crate::texts::help::Help;
+use crate::texts::help::{Help, no_help, says};
 use crate::texts::mailbox_number;
 use crate::texts::message::{Message, Value, plain, with, with_three, with_two};
 use crate::texts::names::{board_name, number_of, space_name};
 use vme_faults::MailboxCause;
 
 /// The message of a cause.
-pub(crate) fn message_of(cause: MailboxCause, context: &Context<'_>) -> Message<'static> {
+pub(crate) fn message_of(cause: MailboxCause, context: &Context<'_>) -> Message {
     let number = Value::Number(mailbox_number(context.place));
     match cause {
         MailboxCause::TooManyMailboxes { mailboxes } => with_two(
@@ -79,28 +79,28 @@ pub(crate) fn message_of(cause: MailboxCause, context: &Context<'_>) -> Message<
 }
 
 /// The help of a cause.
-pub(crate) fn help_of(cause: MailboxCause) -> Help<'static> {
+pub(crate) fn help_of(cause: MailboxCause) -> Help {
     match cause {
         MailboxCause::NoBoardThere {
             am,
             space,
             there: Some(there),
             ..
-        } => Help::Says(with_three(
+        } => says(with_three(
             "code {} selects {}; the board there is in {}",
             Value::Code(u32::from(am)),
             Value::Word(space_name(space)),
             Value::Word(space_name(there)),
         )),
         MailboxCause::SupervisoryBoard { instead, .. } => {
-            Help::Says(with("write am = 0x{}", Value::Code(u32::from(instead))))
+            says(with("write am = 0x{}", Value::Code(u32::from(instead))))
         }
-        _ => Help::None,
+        _ => no_help(),
     }
 }
 
 /// The text of the note at the other mailbox.
-pub(crate) fn note_of(cause: MailboxCause) -> Message<'static> {
+pub(crate) fn note_of(cause: MailboxCause) -> Message {
     match cause {
         MailboxCause::Shared { other, low, high } => with_three(
             "mailbox {} has {} to {} of its board",

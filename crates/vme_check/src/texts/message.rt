@@ -1,13 +1,13 @@
 //! A message as a text and values, and the function that prints every message.
 use crate::report::push_count;
-use crate::texts::quote::push_quoted;
+use crate::texts::quote::{push_quoted, without_prefix, without_quotes, without_zeros};
 use std::alloc::AllocError;
 use std::fmt::Write;
 use toml::de::Error;
 
-/// A value in a message.
+/// A value in a message. The word is that of the file which the message is about.
 #[derive(Clone, Copy)]
-pub(crate) enum Value<'a> {
+pub(crate) enum Value {
     /// Nothing.
     None,
     /// A code, two hexadecimal digits.
@@ -32,25 +32,29 @@ pub(crate) enum Value<'a> {
     Key(&'static str),
     /// The message of an error of TOML.
     Toml(Error),
-    /// A word of the file, quoted.
-    Quoted(&'a [u8]),
-    /// ASCII characters of the file.
-    Chars(&'a [u8]),
-    /// This many zeros.
-    Zeros(usize),
+    /// The word, quoted.
+    Quoted,
+    /// The word without the quotes of a string of TOML, quoted.
+    QuotedText,
+    /// The word without leading zeros, quoted.
+    QuotedNumber,
+    /// The characters of the word.
+    Chars,
+    /// The characters of the word after `0x`, with this many zeros before them.
+    Padded(usize),
     /// The numbers of the bits that are set, from 1 to 21, each after a space.
     Slots(u32),
 }
 
 /// A text with `{}` in the place of each value, and the values.
 #[derive(Clone, Copy)]
-pub(crate) struct Message<'a> {
+pub(crate) struct Message {
     pub(crate) text: &'static str,
-    pub(crate) values: [Value<'a>; 6],
+    pub(crate) values: [Value; 6],
 }
 
 /// A message without values.
-pub(crate) fn plain(text: &'static str) -> Message<'static> {
+pub(crate) fn plain(text: &'static str) -> Message {
     Message {
         text,
         values: [Value::None; 6],
@@ -58,34 +62,33 @@ pub(crate) fn plain(text: &'static str) -> Message<'static> {
 }
 
 /// A message with one value.
-pub(crate) fn with<'a>(text: &'static str, value: Value<'a>) -> Message<'a> {
+pub(crate) fn with(text: &'static str, value: Value) -> Message {
     with_three(text, value, Value::None, Value::None)
 }
 
 /// A message with two values.
-pub(crate) fn with_two<'a>(text: &'static str, first: Value<'a>, second: Value<'a>) -> Message<'a> {
+pub(crate) fn with_two(text: &'static str, first: Value, second: Value) -> Message {
     with_three(text, first, second, Value::None)
 }
 
 /// A message with three values.
-pub(crate) fn with_three<'a>(
-    text: &'static str,
-    first: Value<'a>,
-    second: Value<'a>,
-    third: Value<'a>,
-) -> Message<'a> {
+pub(crate) fn with_three(text: &'static str, first: Value, second: Value, third: Value) -> Message {
     Message {
         text,
         values: [first, second, third, Value::None, Value::None, Value::None],
     }
 }
 
-/// Appends a message.
+/// Appends a message about a word.
 ///
 /// # Errors
 ///
 /// An allocation failed.
-pub(crate) fn push_message(message: &Message<'_>, to: &mut String) -> Result<(), AllocError> {
+pub(crate) fn push_message(
+    message: &Message,
+    word: &[u8],
+    to: &mut String,
+) -> Result<(), AllocError> {
     let mut values = message.values.iter();
     let mut texts = message.text.split("{}");
     if let Some(first) = texts.next() {
@@ -93,7 +96,7 @@ pub(crate) fn push_message(message: &Message<'_>, to: &mut String) -> Result<(),
     }
     for text in texts {
         if let Some(value) = values.next() {
-            push_value(*value, to)?;
+            push_value(*value, word, to)?;
         }
         to.push_str(text)?;
     }
@@ -101,7 +104,7 @@ pub(crate) fn push_message(message: &Message<'_>, to: &mut String) -> Result<(),
 }
 
 /// Appends a value.
-fn push_value(value: Value<'_>, to: &mut String) -> Result<(), AllocError> {
+fn push_value(value: Value, word: &[u8], to: &mut String) -> Result<(), AllocError> {
     match value {
         Value::None => Ok(()),
         Value::Code(code) => write!(to, "{code:02x}"),
@@ -110,14 +113,16 @@ fn push_value(value: Value<'_>, to: &mut String) -> Result<(), AllocError> {
         Value::Number(number) => write!(to, "{number}"),
         Value::Signed(number) => write!(to, "{number}"),
         Value::Count(count, thing) => push_count(count, thing, to),
-        Value::Numbered(word, number) => write!(to, "{word} {number}"),
-        Value::Element(word, number, key) => write!(to, "{word} {number} of `{key}`"),
-        Value::Word(word) => to.push_str(word),
-        Value::Key(word) => write!(to, "`{word}`"),
+        Value::Numbered(thing, number) => write!(to, "{thing} {number}"),
+        Value::Element(thing, number, key) => write!(to, "{thing} {number} of `{key}`"),
+        Value::Word(text) => to.push_str(text),
+        Value::Key(key) => write!(to, "`{key}`"),
         Value::Toml(error) => to.push_str(error.message()),
-        Value::Quoted(word) => push_quoted(word, to),
-        Value::Chars(chars) => push_chars(chars, to),
-        Value::Zeros(count) => push_zeros(count, to),
+        Value::Quoted => push_quoted(word, to),
+        Value::QuotedText => push_quoted(without_quotes(word), to),
+        Value::QuotedNumber => push_quoted(without_zeros(word), to),
+        Value::Chars => push_chars(word, to),
+        Value::Padded(zeros) => push_padded(zeros, without_prefix(word), to),
         Value::Slots(slots) => push_slots(slots, to),
     }
 }
@@ -130,12 +135,12 @@ fn push_chars(chars: &[u8], to: &mut String) -> Result<(), AllocError> {
     Ok(())
 }
 
-/// Appends zeros.
-fn push_zeros(count: usize, to: &mut String) -> Result<(), AllocError> {
-    for _ in 0..count {
+/// Appends zeros and ASCII characters.
+fn push_padded(zeros: usize, chars: &[u8], to: &mut String) -> Result<(), AllocError> {
+    for _ in 0..zeros {
         to.push('0')?;
     }
-    Ok(())
+    push_chars(chars, to)
 }
 
 /// The greatest number of a slot.

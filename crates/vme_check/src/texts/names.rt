@@ -53,7 +53,7 @@ pub(crate) fn space_name(space: Space) -> &'static str {
 }
 
 /// Returns the name of a board: its slot, or its number among the boards if the slot is refused.
-pub(crate) fn board_name(board: BoardName) -> Value<'static> {
+pub(crate) fn board_name(board: BoardName) -> Value {
     match board {
         BoardName::Slot(slot) => Value::Numbered("slot", u64::from(slot)),
         BoardName::Index(index) => Value::Numbered("board", number_of(index)),

@@ -45,3 +45,18 @@ pub(crate) fn without_quotes(value: &[u8]) -> &[u8] {
     }
     value
 }
+
+/// Digits without leading zeros; `0` if all of them are zeros.
+pub(crate) fn without_zeros(digits: &[u8]) -> &[u8] {
+    for (at, byte) in digits.iter().enumerate() {
+        if *byte != b'0' {
+            return digits.get(at..).unwrap_or(digits);
+        }
+    }
+    b"0"
+}
+
+/// The bytes of a word after `0x`, if it begins so.
+pub(crate) fn without_prefix(word: &[u8]) -> &[u8] {
+    word.strip_prefix(b"0x").unwrap_or(word)
+}

@@ -1,16 +1,16 @@
 //! The texts of faults of the arbiter and of the turns.
 use crate::report::Context;
-use crate::texts::help::Help;
+use crate::texts::help::{Help, no_help, says};
 use crate::texts::message::{Message, Value, plain, with, with_two};
 use crate::texts::quote::without_quotes;
 use vme_faults::ScheduleCause;
 
 /// The message of a cause.
-pub(crate) fn message_of<'a>(cause: ScheduleCause, context: &Context<'a>) -> Message<'a> {
+pub(crate) fn message_of(cause: ScheduleCause) -> Message {
     match cause {
         ScheduleCause::NoArbiter => with(
             "{} is not an arbiter; `priority` and `rotating` are",
-            Value::Quoted(without_quotes(context.word)),
+            Value::QuotedText,
         ),
         ScheduleCause::TriesRange { tries } => with(
             "`tries` is {}; it takes 1 to 1000000",
@@ -32,7 +32,7 @@ pub(crate) fn message_of<'a>(cause: ScheduleCause, context: &Context<'a>) -> Mes
 }
 
 /// The message about a slot without a board, which this many further pairs name.
-fn no_board_in(slot: u64, more: u64) -> Message<'static> {
+fn no_board_in(slot: u64, more: u64) -> Message {
     let slot = Value::Number(slot);
     match more {
         0 => with("no board in slot {}", slot),
@@ -46,19 +46,19 @@ fn no_board_in(slot: u64, more: u64) -> Message<'static> {
 }
 
 /// The help of a cause.
-pub(crate) fn help_of(cause: ScheduleCause, context: &Context<'_>) -> Help<'static> {
+pub(crate) fn help_of(cause: ScheduleCause, context: &Context<'_>) -> Help {
     match cause {
         ScheduleCause::NoArbiter => {
             let word = without_quotes(context.word);
             if word.eq_ignore_ascii_case(b"priority") {
-                Help::Says(plain("write \"priority\""))
+                says(plain("write \"priority\""))
             } else if word.eq_ignore_ascii_case(b"rotating") {
-                Help::Says(plain("write \"rotating\""))
+                says(plain("write \"rotating\""))
             } else {
-                Help::None
+                no_help()
             }
         }
-        ScheduleCause::NoBoardInSlot { slots, .. } => Help::Says(with(
+        ScheduleCause::NoBoardInSlot { slots, .. } => says(with(
             if slots.count_ones() == 1 {
                 "the only board is in slot{}"
             } else {
@@ -66,6 +66,6 @@ pub(crate) fn help_of(cause: ScheduleCause, context: &Context<'_>) -> Help<'stat
             },
             Value::Slots(slots),
         )),
-        _ => Help::None,
+        _ => no_help(),
     }
 }

@@ -1,14 +1,14 @@
 //! The texts of warnings.
 use crate::report::Context;
 use crate::texts::cycle;
-use crate::texts::help::Help;
+use crate::texts::help::{Help, no_help, says};
 use crate::texts::message::{Message, Value, plain, with, with_three, with_two};
 use crate::texts::names::space_name;
 use vme_faults::{FileWarning, Lack, LineWarning};
 use vme_positions::Place;
 
 /// The message of a warning of a file.
-pub(crate) fn message_of(warning: FileWarning, context: &Context<'_>) -> Message<'static> {
+pub(crate) fn message_of(warning: FileWarning, context: &Context<'_>) -> Message {
     match warning {
         FileWarning::NoTurns => plain(match context.place {
             Place::Table { .. } | Place::File => {
@@ -45,20 +45,20 @@ pub(crate) fn message_of(warning: FileWarning, context: &Context<'_>) -> Message
 }
 
 /// The help of a warning of a file.
-pub(crate) fn help_of(warning: FileWarning) -> Help<'static> {
+pub(crate) fn help_of(warning: FileWarning) -> Help {
     match warning {
-        FileWarning::NoTurns => Help::Says(plain("add `rounds = 100` above the first [[board]]")),
-        FileWarning::Decimal { value } => Help::Says(with(
+        FileWarning::NoTurns => says(plain("add `rounds = 100` above the first [[board]]")),
+        FileWarning::Decimal { value } => says(with(
             "write 0x{} if that was meant",
             Value::Number(u64::from(value)),
         )),
-        _ => Help::None,
+        _ => no_help(),
     }
 }
 
 /// The message of a warning of a line. Where its request is always refused, it is that of the
 /// refusal.
-pub(crate) fn line_message(warning: LineWarning) -> Message<'static> {
+pub(crate) fn line_message(warning: LineWarning) -> Message {
     match warning {
         LineWarning::AlwaysRefused(cause) => cycle::message_of(cause),
         LineWarning::NoBoardThere { space, addr, .. } => with_two(
@@ -105,7 +105,7 @@ pub(crate) fn line_message(warning: LineWarning) -> Message<'static> {
 }
 
 /// The message that the board in a slot lacks what a transfer needs, which ends after so many data.
-fn lack_message(lack: Lack, slot: Value<'static>, data: Value<'static>) -> Message<'static> {
+fn lack_message(lack: Lack, slot: Value, data: Value) -> Message {
     match lack {
         Lack::Unaligned => with_two(
             "slot {} has no unaligned transfers (`uat`): always berr {}",
@@ -132,7 +132,7 @@ fn lack_message(lack: Lack, slot: Value<'static>, data: Value<'static>) -> Messa
 }
 
 /// The help of a warning of a line.
-pub(crate) fn line_help(warning: LineWarning) -> Help<'static> {
+pub(crate) fn line_help(warning: LineWarning) -> Help {
     match warning {
         LineWarning::AlwaysRefused(cause) => cycle::help_of(cause),
         LineWarning::NoBoardThere {
@@ -140,7 +140,7 @@ pub(crate) fn line_help(warning: LineWarning) -> Help<'static> {
             am,
             there: Some((slot, there)),
             ..
-        } => Help::Says(Message {
+        } => says(Message {
             text: "slot {} has that address in {}; code {} selects {}",
             values: [
                 Value::Number(u64::from(slot)),
@@ -152,8 +152,8 @@ pub(crate) fn line_help(warning: LineWarning) -> Help<'static> {
             ],
         }),
         LineWarning::SupervisoryBoard { instead, .. } => {
-            Help::Says(with("write {}", Value::Code(u32::from(instead))))
+            says(with("write {}", Value::Code(u32::from(instead))))
         }
-        _ => Help::None,
+        _ => no_help(),
     }
 }
