@@ -11,14 +11,15 @@ use Rattle.vme_grammar.specs.Grammar.{line_of}
 use Rattle.vme_script.specs.declared.board.BoardConfig.{BoardConfig}
 use Rattle.vme_script.specs.Boards.{entries_of}
 use Rattle.vme_script.specs.Configurations.{Configuration}
-use Rattle.vme_script.specs.Contexts.{refusal_of, unless_refused, asked_within, line_within}
+use Rattle.vme_script.specs.Contexts.{boxes_of, refusal_of, unless_refused, asked_within, line_within}
 use Rattle.vme_script.specs.Lawful.{IsLawful}
+use Rattle.vme_script.specs.MailboxNumbers.{may_name}
 use Rattle.vme_script.specs.Scripts.{rules_of}
 use Rattle.vme_line_task.specs.Scripts.{HasItsMailbox}
+use Rattle.vme_line_task.proofs.lemmas.Mailboxes.{names_mailbox}
 use Rattle.vme_stepper.specs.Turns.{board_in_slot}
 use Rattle.vme_serve.specs.declared.request.Asked.TheVariants as asked
 use Rattle.vme_serve.specs.Requests.{slot_len, board_named, asked_in, asked_of_board, asked_after, asked_of}
-use Rattle.vme_serve.proofs.Mailboxes.{accepted}
 
 -- the board of a request is there, and so is the mailbox that its line names
 pub record IsServable (config : Configuration) (board : ℕ) (line : Line) : Type 0 where
@@ -36,6 +37,15 @@ by_slot : (config : Configuration) (slot : Option ℕ) (board : ℕ) → option_
     → board < length config.boards
 by_slot config None board is = absurd (cc is)
 by_slot config (Some slot) board is = in_slot config slot board is
+
+-- an accepted line has its mailbox
+accepted : (config : Configuration) → IsLawful config → (board : ℕ) (line : Line)
+    → refusal_of (rules_of (entries_of config.boards) config.mailboxes board) line ≡ None → HasItsMailbox config line
+accepted config lawful board line none =
+    elim (cases_Bool (may_name (boxes_of (rules_of (entries_of config.boards) config.mailboxes board)) line)) [
+      | inl may ↦ names_mailbox config lawful line may
+      | inr not_may ↦ absurd (let bad = simp not_may at none in cc)
+    ]
 
 no_refusal : (line found : Line) (refusal : Option LineFault) → unless_refused refusal found ≡ Ok (Some line) → (refusal ≡ None) × (found ≡ line)
 no_refusal line found None is = (refl, cc is)

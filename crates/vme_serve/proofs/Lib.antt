@@ -1,5 +1,3 @@
-pub mod Places
-pub mod Mailboxes
 pub mod Counts
 pub mod Calling
 pub mod Serving
@@ -8,6 +6,4 @@ pub mod Answering
 pub mod Running
 pub mod Printing
 pub mod Opening
-pub mod Making
-pub mod Starting
 pub mod Asking

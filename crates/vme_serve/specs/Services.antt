@@ -1,19 +1,18 @@
 -- A service: the boards and the arbiter of a configuration's file, and its answer to each line.
-use Rattle.std.specs.Prelude.{ℕ, ◌≡◌, ◌-◌, ◌^◌, List, [], ◌∷◌, ◌++◌, length, map, codes, None, Result, Ok, Err}
-use Rattle.vme_cycle.specs.declared.fault.CycleFault.{CycleFault}
+use Rattle.std.specs.Prelude.{ℕ, ◌≡◌, ◌-◌, ◌^◌, List, [], ◌∷◌, ◌++◌, length, map, codes, None, unwrap_or}
 use Rattle.vme_arbiter.specs.Arbitration.{opening_bus}
 use Rattle.vme_core.specs.Runs.{Machine}
 use Rattle.vme_core.specs.Machines.{opening, process_count}
-use Rattle.vme_core.specs.NextSteps.{NextStep, Returns}
+use Rattle.vme_core.specs.NextSteps.{NextStep, result_in}
+use Rattle.vme_master.specs.Tables.{Inputs}
 use Rattle.vme_shared.specs.declared.reply.LineReply.{LineReply}
-use Rattle.vme_shared.specs.declared.reply.LineReply.TheVariants as replies
+use Rattle.vme_shared.specs.declared.reply.LineReply.TheVariants.{Unfinished}
 use Rattle.vme_grammar.specs.declared.line.Line.{Line}
 use Rattle.vme_grammar.specs.Texts.{line_fault_text, output_line}
 use Rattle.vme_script.specs.ReplyTexts.{reply_text}
 use Rattle.vme_script.specs.Configurations.{Configuration, opening_memory}
 use Rattle.vme_script.specs.Lawful.{IsLawful}
-use Rattle.vme_line_task.specs.Scripts.{Attempt, line_attempt}
-use Rattle.vme_line_task.specs.Tables.{attempt_next}
+use Rattle.vme_line_task.specs.Tables.{next_given_with}
 use Rattle.vme_serve.specs.declared.request.Asked.{Asked}
 use Rattle.vme_serve.specs.declared.request.Asked.TheVariants.{NoBoard, Refused, Nothing, Request}
 use Rattle.vme_serve.specs.Requests.{asked_of}
@@ -45,27 +44,18 @@ pub record Served : Type 0 where
   pub reply : LineReply
   pub service : ServiceView
 
--- the reply of an attempt that has ended; one that has not is unfinished
-abbrev pub reply_of : NextStep LineReply → LineReply
-reply_of (Returns reply) = reply
-reply_of next = replies.Unfinished
-
--- an attempt after its calls
-abbrev pub attempt_end : ServiceView → Attempt → CallsMade → Served
-attempt_end service attempt made = record {
-  reply = reply_of (attempt_next attempt made.given);
+-- a line after its calls; one that has not ended is unfinished
+abbrev pub line_end : ServiceView → (Inputs → NextStep LineReply) → CallsMade → Served
+line_end service next made = record {
+  reply = unwrap_or (result_in (next made.given)) Unfinished;
   service = record { config = service.config; machine = made.machine; left = made.left };
 }
 
--- one attempt at a line of a board's processor, from its first call to its end; a refused request makes no call
-abbrev pub attempt_served : ServiceView → ℕ → Result Attempt CycleFault → Served
-attempt_served service board (Ok attempt) =
-    attempt_end service attempt (calls_made (attempt_next attempt) board service.left service.machine (None ∷ []))
-attempt_served service board (Err fault) = record { reply = replies.Refused fault; service = service }
-
--- a line of a board's processor: one attempt at it
+-- a line of a board's processor, which has one attempt, from its first call to its end
 unfoldable pub line_served : ServiceView → ℕ → Line → Served
-line_served service board line = attempt_served service board (line_attempt service.config board line)
+line_served service board line =
+    let next : Inputs → NextStep LineReply = next_given_with service.config board 1 line in
+    line_end service next (calls_made next board service.left service.machine (None ∷ []))
 
 -- the answer to a line of a session, a line of text, and the service after it
 pub record Answer : Type 0 where

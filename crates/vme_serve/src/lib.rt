@@ -4,7 +4,7 @@
 //! A test bench in any language can drive the boards through two pipes.
 #![tactic(auto)]
 
-mod attempt;
+mod calls;
 mod fault;
 mod input;
 mod laws;

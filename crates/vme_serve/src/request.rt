@@ -3,12 +3,12 @@ ghost use Rattle.std.specs.Prelude.{◌≡◌, ◌<◌, ◌≤◌, length, Some,
 ghost use Rattle.vme_script.specs.Boards.{entries_of};
 ghost use Rattle.vme_script.specs.Contexts.{line_within};
 ghost use Rattle.vme_script.specs.Scripts.{rules_of};
-ghost use Rattle.vme_stepper.specs.Turns.{board_in_slot};
 ghost use Rattle.vme_serve.specs.Requests.{slot_len, board_named, asked_in, asked_of};
 
 use vme_grammar::{LINE_LIMIT, Line, LineFault, parse_line};
 use vme_lexer::decimal_number;
 use vme_script::{Config, MailboxDeclarations, ScriptContext};
+use vme_stepper::board_in_slot;
 
 /// The greatest number of bytes of a line of the input, without its end: a slot of two digits, a
 /// space, and a line of a script.
@@ -69,19 +69,6 @@ fn board_named(config: &Config, line: &[u8], count: usize) -> Option<usize>
 {
     let slot = decimal_number(2, &line[..count])?;
     board_in_slot(config, slot)
-}
-
-/// Returns the index of the board in a slot, if there is one.
-fn board_in_slot(config: &Config, slot: u16) -> Option<usize>
-    ensures board { result ≡ board_in_slot config.now slot }
-    ensures there { IfSome result (λ board. board < length config.now.boards) }
-{
-    for board in 0..config.boards() {
-        if config.slot(board) == slot {
-            return Some(board);
-        }
-    }
-    None
 }
 
 /// Returns what a text asks for as a line of the script of a board's processor.

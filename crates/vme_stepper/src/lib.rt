@@ -9,4 +9,4 @@ mod run;
 mod stepper;
 
 pub use run::{run_configured, run_steps};
-pub use stepper::{Stepper, board_in_slot};
+pub use stepper::{Stepper, board_in_slot, zero_memories};

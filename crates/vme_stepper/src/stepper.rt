@@ -251,7 +251,7 @@ pub fn board_in_slot(config: &Config, slot: u16) -> Option<usize>
 }
 
 /// Returns the memories of the boards, all zero.
-fn zero_memories(alloc: Global, config: &Config) -> Result<Vec<ByteMemory>, OutOfMemory>
+pub fn zero_memories(alloc: Global, config: &Config) -> Result<Vec<ByteMemory>, OutOfMemory>
     ensures { IfOk result (λ memories. memories.items ≡ map opening_memory config.now.boards) }
 {
     let count = config.boards();

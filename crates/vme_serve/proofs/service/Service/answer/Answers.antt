@@ -5,14 +5,14 @@ use Rattle.vme_serve.specs.Services.{ServiceView}
 use Rattle.vme_serve.proofs.Asking.{servable}
 use Rattle.vme_serve.proofs.service.Service.answer.Goals as goal
 
-pub serve_line-requires-clause-board : goal.serve_line-requires-clause-board
-serve_line-requires-clause-board c =
+pub reply_to-requires-clause-board : goal.reply_to-requires-clause-board
+reply_to-requires-clause-board c =
     subst (λ (config : Configuration). c.in-Request.board < length config.boards) (ap (λ (s : ServiceView). s.config) c.self.view_is)
     (servable c.self.inside.config.now c.args.line.now c.in-Request.board c.in-Request.line c.self.invariant.lawful
     (sym c.asked_of.ensures ∙ c.in-Request.is)).there
 
-pub serve_line-requires-clause-mailbox : goal.serve_line-requires-clause-mailbox
-serve_line-requires-clause-mailbox c =
+pub reply_to-requires-clause-mailbox : goal.reply_to-requires-clause-mailbox
+reply_to-requires-clause-mailbox c =
     subst (λ (config : Configuration). HasItsMailbox config c.in-Request.line) (ap (λ (s : ServiceView). s.config) c.self.view_is)
     (servable c.self.inside.config.now c.args.line.now c.in-Request.board c.in-Request.line c.self.invariant.lawful
     (sym c.asked_of.ensures ∙ c.in-Request.is)).mailbox
