@@ -1,5 +1,5 @@
 -- A line that makes its calls: its task follows from what it was given, and its objects can count its calls.
-use Rattle.std.proofs.Common.{◌≡◌, ◌≢◌, ℕ, zero, suc, ◌+◌, ◌-◌, ◌<◌, ◌≤◌, false, true, ◌∷◌, length, Option, Some, None, refl, ap, sym, subst, ◌∙◌, arith, ◌⊎◌, inl, inr}
+use Rattle.std.proofs.Common.{◌≡◌, ◌≢◌, ℕ, zero, suc, ◌+◌, ◌-◌, ◌<◌, false, true, ◌∷◌, length, Option, Some, None, refl, ap, sym, subst, ◌∙◌, arith, ◌⊎◌, inl, inr}
 use Rattle.std.specs.Prelude.{is_some}
 use Rattle.vme_core.specs.declared.event.EventReply.{EventReply}
 use Rattle.vme_core.specs.declared.event.Target.{Target}
@@ -16,7 +16,7 @@ use Rattle.vme_line_task.specs.declared.task.LineTask.{LineTask}
 use Rattle.vme_line_task.specs.Machine.{line_advance, line_to_do, line_advanced, IsLineBelow}
 use Rattle.vme_line_task.specs.Events.{IsCallBelow}
 use Rattle.vme_line_task.proofs.lemmas.Below.{calls_below}
-use Rattle.vme_serve.specs.Calls.{CanCountMore, CallsMade, call_made, calls_made, next_of_task}
+use Rattle.vme_serve.specs.Calls.{CanCountMore, CallsMade, calls_made, next_of_task}
 use Rattle.vme_serve.proofs.Counts.{machine_steps, none_spent}
 
 -- without a call, or if no more can be counted, the calls are over

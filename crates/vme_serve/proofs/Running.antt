@@ -193,6 +193,6 @@ line_refused service scripts board line reply ends =
     let returns : table (None ∷ []) ≡ Returns reply = sym (same_next service.config scripts board line []) ∙ ends in
     let none = no_call table board service.left service.machine (None ∷ []) (ap call_in returns) in (
       ap (λ (made : CallsMade). unwrap_or (result_in (table made.given)) replies.Unfinished) none
-      ∙ ap (λ next. unwrap_or (result_in next) replies.Unfinished) returns,
+          ∙ ap (λ next. unwrap_or (result_in next) replies.Unfinished) returns,
       ap (λ (made : CallsMade). (line_end service table made).service) none,
     )

@@ -1,5 +1,5 @@
 -- A line that is served by its task.
-use Rattle.std.proofs.Common.{◌≡◌, ℕ, List, [], ◌∷◌, Option, None, ap, ◌∙◌}
+use Rattle.std.proofs.Common.{◌≡◌, ℕ, [], ◌∷◌, Option, None, ap, ◌∙◌}
 use Rattle.std.specs.Prelude.{unwrap_or}
 use Rattle.vme_core.specs.Runs.{Machine}
 use Rattle.vme_core.specs.NextSteps.{NextStep, result_in}
