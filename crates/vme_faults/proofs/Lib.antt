@@ -1,3 +1,4 @@
+pub mod Sites
 pub mod Heads
 pub mod Boards
 pub mod Severities

@@ -9,16 +9,13 @@ use Rattle.vme_script.specs.declared.fault.ScriptRefusal.{ScriptRefusal}
 use Rattle.vme_script.specs.declared.fault.ScriptRefusal.TheVariants as script
 use Rattle.vme_script.specs.declared.fault.ConfigFault.{ConfigFault}
 use Rattle.vme_script.specs.declared.fault.ConfigFault.TheVariants as config
+use Rattle.vme_script.specs.Causes.{board_refusal, schedule_refusal, mailbox_refusal}
 use Rattle.vme_faults.specs.declared.cause.Severity.{Severity}
 use Rattle.vme_faults.specs.declared.cause.Severity.TheVariants.{Error, Warning}
 use Rattle.vme_faults.specs.declared.cause.Cause.{Cause}
 use Rattle.vme_faults.specs.declared.cause.Cause.TheVariants as causes
 use Rattle.vme_faults.specs.declared.cause.document.DocumentCause.{DocumentCause}
 use Rattle.vme_faults.specs.declared.cause.document.DocumentCause.TheVariants as documents
-use Rattle.vme_faults.specs.declared.cause.board.BoardCause.{BoardCause}
-use Rattle.vme_faults.specs.declared.cause.board.BoardCause.TheVariants as boards
-use Rattle.vme_faults.specs.declared.cause.schedule.ScheduleCause.{ScheduleCause}
-use Rattle.vme_faults.specs.declared.cause.schedule.ScheduleCause.TheVariants as schedules
 use Rattle.vme_faults.specs.declared.cause.line.LineCause.{LineCause}
 use Rattle.vme_faults.specs.declared.cause.line.LineCause.TheVariants as lines
 use Rattle.vme_faults.specs.declared.cause.cycle.CycleCause.{CycleCause}
@@ -30,26 +27,6 @@ document_refusal (documents.NotToml error) = config.NotToml
 document_refusal documents.NoBoard = config.NoBoard
 document_refusal (documents.TooManyBoards boards) = config.TooMany
 document_refusal _ = config.BadKey
-
--- the refusal for a fault of a board
-abbrev pub board_refusal : BoardCause → ConfigFault
-board_refusal (boards.SlotRange slot) = config.BadSlot
-board_refusal (boards.SlotTaken slot other) = config.BadSlot
-board_refusal (boards.SlotOrder slot before other) = config.BadSlot
-board_refusal (boards.LevelRange level) = config.BadLevel
-board_refusal boards.NoSpace = config.BadWord
-board_refusal (boards.NoWidth width) = config.BadWord
-board_refusal (boards.UnalignedWidth width) = config.BadWord
-board_refusal (boards.SizeRange size) = config.BadSize
-board_refusal (boards.SizeNotAligned size) = config.BadSize
-board_refusal (boards.BaseNotAligned base) = config.Misaligned
-board_refusal (boards.OutsideSpace space last) = config.OutsideSpace
-board_refusal _ = config.Overlap
-
--- the refusal for a fault of the arbiter or of the turns
-abbrev pub schedule_refusal : ScheduleCause → ConfigFault
-schedule_refusal schedules.NoArbiter = config.BadWord
-schedule_refusal _ = config.BadSchedule
 
 -- the refusal of a line by its fault; a script with too many lines has none
 abbrev pub line_fault : LineCause → Option LineFault
@@ -97,7 +74,7 @@ abbrev pub refusal_of : Cause → Option ConfigFault
 refusal_of (causes.Document cause) = Some (document_refusal cause)
 refusal_of (causes.Board cause) = Some (board_refusal cause)
 refusal_of (causes.Schedule cause) = Some (schedule_refusal cause)
-refusal_of (causes.Mailbox cause) = Some config.BadMailbox
+refusal_of (causes.Mailbox cause) = Some (mailbox_refusal cause)
 refusal_of (causes.Script slot number cause) =
     Some (config.BadScript (unwrap_or slot 0) (script_refusal number (line_fault cause)))
 refusal_of (causes.Refused fault) = Some fault

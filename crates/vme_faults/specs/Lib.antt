@@ -1,4 +1,5 @@
 pub mod Causes
 pub mod Severities
+pub mod Sites
 pub mod Boards
 pub mod Lines

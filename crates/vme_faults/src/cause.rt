@@ -2,22 +2,18 @@
 ghost use Rattle.std.specs.Prelude.{◌≡◌};
 ghost use Rattle.vme_faults.specs.Causes.{refusal_of, severity_of};
 
-mod board;
 mod cycle;
 mod document;
 mod line;
-mod mailbox;
-mod schedule;
+mod place;
 mod warning;
 
-pub use board::{BoardCause, BoardName};
 pub use cycle::CycleCause;
 pub use document::{DocumentCause, ValueKind};
 pub use line::{DataLength, LineCause, LineForm};
-pub use mailbox::MailboxCause;
-pub use schedule::ScheduleCause;
 use vme_positions::Place;
-use vme_script::{ConfigFault, ScriptRefusal};
+use vme_script::ConfigFault;
+pub use vme_script::{BoardCause, BoardName, MailboxCause, ScheduleCause};
 pub use warning::{FileWarning, Lack, LineWarning};
 
 /// Whether a finding is an error or a warning.
@@ -89,12 +85,13 @@ impl Cause {
     /// refused is a warning with the number of that refusal, as `K8`.
     pub fn code(self) -> &'static str {
         match self {
-            Cause::Document(cause) => cause.code(),
-            Cause::Board(cause) => cause.code(),
-            Cause::Schedule(cause) => cause.code(),
-            Cause::Mailbox(_) => "C13",
-            Cause::Script { cause, .. } | Cause::RequestLine(cause) => cause.code(),
-            Cause::Refused(fault) => refusal_code(fault),
+            Cause::Document(cause) => cause.refusal().code(),
+            Cause::Board(cause) => cause.refusal().code(),
+            Cause::Schedule(cause) => cause.refusal().code(),
+            Cause::Mailbox(cause) => cause.refusal().code(),
+            Cause::Script { cause, line, .. } => cause.refusal(line).code(),
+            Cause::RequestLine(cause) => cause.refusal(1).code(),
+            Cause::Refused(fault) => fault.code(),
             Cause::File(warning) => warning.name(),
             Cause::Line { warning, .. } => warning.name(),
             Cause::RequestCycle(cause) => cause.code(),
@@ -114,7 +111,7 @@ impl Cause {
             Cause::Document(cause) => Some(cause.refusal()),
             Cause::Board(cause) => Some(cause.refusal()),
             Cause::Schedule(cause) => Some(cause.refusal()),
-            Cause::Mailbox(_) => Some(ConfigFault::BadMailbox),
+            Cause::Mailbox(cause) => Some(cause.refusal()),
             Cause::Script { slot, line, cause } => Some(ConfigFault::BadScript {
                 slot: slot.unwrap_or(0),
                 refusal: cause.refusal(line),
@@ -132,33 +129,9 @@ impl Cause {
     /// earlier board or mailbox.
     pub fn other_place(self) -> Option<Place> {
         match self {
-            Cause::Board(cause) => cause.other_place(),
-            Cause::Mailbox(cause) => cause.other_place(),
+            Cause::Board(cause) => place::other_board(cause),
+            Cause::Mailbox(cause) => place::other_mailbox(cause),
             _ => None,
         }
-    }
-}
-
-/// The number of a file's refusal, or for a script that of its line's refusal.
-fn refusal_code(fault: ConfigFault) -> &'static str {
-    match fault {
-        ConfigFault::NotToml => "C6",
-        ConfigFault::BadKey => "C7",
-        ConfigFault::NoBoard => "C11",
-        ConfigFault::TooMany => "C4",
-        ConfigFault::BadSlot => "C8",
-        ConfigFault::BadLevel => "C9",
-        ConfigFault::BadWord => "C10",
-        ConfigFault::BadSize => "C5",
-        ConfigFault::Misaligned => "C3",
-        ConfigFault::OutsideSpace => "C2",
-        ConfigFault::Overlap => "C1",
-        ConfigFault::BadSchedule => "C12",
-        ConfigFault::BadMailbox => "C13",
-        ConfigFault::BadScript { refusal, .. } => match refusal {
-            ScriptRefusal::TooManyLines => "S8",
-            ScriptRefusal::BadLine { fault, .. } => line::fault_code(fault),
-        },
-        ConfigFault::OutOfMemory => "memory",
     }
 }

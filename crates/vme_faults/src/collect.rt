@@ -1,10 +1,10 @@
 //! The faults of a file that is not a configuration.
-use crate::cause::{Cause, DocumentCause, LineCause, MailboxCause};
+use crate::cause::{Cause, DocumentCause, LineCause};
 use crate::finding::{Finding, find};
 use crate::mailboxes::{self, KnownMailbox};
 use crate::ranges::{find_overlaps, map_of};
 use crate::schedule::{check_numbers, check_pairs, read_pairs};
-use crate::script::{FaultyLine, MOST_LINES, Surroundings, fault_alone, faulty_lines};
+use crate::script::{FaultyLine, Surroundings, fault_alone, faulty_lines};
 use crate::section::{Section, find_tables};
 use crate::tables::{self, KnownBoard};
 use crate::words::WordSpan;
@@ -13,13 +13,10 @@ use toml::{Table, Value};
 use vme_decode::AddressMap;
 use vme_lexer::Lines;
 use vme_positions::{Key, Place, TableName};
-use vme_script::{Mailbox, MailboxDeclarations, ScriptContext};
-
-/// The greatest number of boards.
-const MOST_BOARDS: usize = 21;
-
-/// The greatest number of mailboxes.
-const MOST_MAILBOXES: usize = 16;
+use vme_script::{
+    BoardRange, MOST_BOARDS, MOST_LINES, MOST_MAILBOXES, Mailbox, MailboxDeclarations,
+    ScriptContext, check_count,
+};
 
 /// Returns the faults of a document that can be distinguished. A test is made only where all values
 /// that it needs are known and not refused themselves, so a fault that only follows from another
@@ -150,7 +147,10 @@ fn find_count(
 /// The mailboxes of a file, at most 16 of them.
 #[derive(Drop)]
 struct Mailboxes {
-    known: Vec<KnownMailbox>,
+    /// Those that are lawful.
+    lawful: Vec<Mailbox>,
+    /// The bytes of each, or no bytes if they are unknown.
+    places: Vec<BoardRange>,
     /// The number of elements of `mailbox`, if its value is an array or absent.
     declared: Option<usize>,
 }
@@ -164,17 +164,16 @@ fn read_mailboxes(
     map: Option<&AddressMap>,
     found: &mut Vec<Finding>,
 ) -> Result<Mailboxes, AllocError> {
-    let mut known = Vec::new(alloc);
+    let mut lawful = Vec::new(alloc);
+    let mut places = Vec::new(alloc);
     let Some(items) = file.elements(Key::Mailbox, found)? else {
         return Ok(Mailboxes {
-            known,
+            lawful,
+            places,
             declared: None,
         });
     };
-    if items.len() > MOST_MAILBOXES {
-        let cause = MailboxCause::TooManyMailboxes {
-            mailboxes: items.len(),
-        };
+    if let Err(cause) = check_count(items.len()) {
         let place = Place::Table {
             table: TableName::Mailbox,
             index: MOST_MAILBOXES,
@@ -184,15 +183,19 @@ fn read_mailboxes(
     find_tables(Key::Mailbox, items, found)?;
     for (index, item) in items.iter().enumerate() {
         let before = found.len();
-        let mailbox = read_mailbox(item, index, (boards, map), &known, found)?;
+        let known = read_mailbox(item, index, (boards, map), &places, found)?;
         if index < MOST_MAILBOXES {
-            known.push(mailbox)?;
+            places.push(known.place)?;
+            if let Some(mailbox) = known.lawful {
+                lawful.push(mailbox)?;
+            }
         } else if found.len() > before {
             break;
         }
     }
     Ok(Mailboxes {
-        known,
+        lawful,
+        places,
         declared: Some(items.len()),
     })
 }
@@ -203,7 +206,7 @@ fn read_mailbox(
     item: &Value,
     index: usize,
     (boards, map): (&[KnownBoard<'_>], Option<&AddressMap>),
-    earlier: &[KnownMailbox],
+    earlier: &[BoardRange],
     found: &mut Vec<Finding>,
 ) -> Result<KnownMailbox, AllocError> {
     let Value::Table(values) = item else {
@@ -222,25 +225,6 @@ fn read_mailbox(
     }
 }
 
-/// The mailboxes of a file, if all of them are lawful.
-fn lawful_mailboxes(
-    alloc: Global,
-    mailboxes: &Mailboxes,
-) -> Result<Option<Vec<Mailbox>>, AllocError> {
-    let mut lawful = Vec::new(alloc);
-    for known in &mailboxes.known {
-        match known.mailbox {
-            Some(mailbox) if known.is_lawful => lawful.push(mailbox)?,
-            _ => return Ok(None),
-        }
-    }
-    if mailboxes.declared == Some(lawful.len()) {
-        Ok(Some(lawful))
-    } else {
-        Ok(None)
-    }
-}
-
 /// Finds the faults of the scripts of all boards.
 fn collect_scripts<'a>(
     alloc: Global,
@@ -249,7 +233,7 @@ fn collect_scripts<'a>(
     mailboxes: &'a Mailboxes,
     found: &mut Vec<Finding>,
 ) -> Result<(), AllocError> {
-    let lawful = lawful_mailboxes(alloc, mailboxes)?;
+    let are_lawful = mailboxes.declared == Some(mailboxes.lawful.len());
     for (index, board) in boards.iter().enumerate() {
         let Some(text) = board.script else {
             continue;
@@ -257,15 +241,15 @@ fn collect_scripts<'a>(
         let around = Surroundings {
             boards,
             map,
-            mailboxes: &mailboxes.known,
+            mailboxes: &mailboxes.places,
             declared: mailboxes.declared,
             board: index,
         };
-        match (map, &lawful) {
-            (Some(map), Some(lawful)) => {
+        match map {
+            Some(map) if are_lawful => {
                 let context = ScriptContext::InFile(MailboxDeclarations {
                     map,
-                    mailboxes: lawful,
+                    mailboxes: &mailboxes.lawful,
                     board: index,
                 });
                 let lines = faulty_lines(alloc, text.as_bytes(), &context, &around)?;

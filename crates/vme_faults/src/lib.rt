@@ -6,7 +6,6 @@
 //! a file, of a request and of a line, with the numbers of `docs/GUIDE.md`.
 #![tactic(auto)]
 
-mod board;
 mod cause;
 mod collect;
 mod cycle;

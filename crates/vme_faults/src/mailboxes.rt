@@ -1,6 +1,6 @@
 //! The mailbox tables of a file, and their faults.
 use crate::cause::{Cause, MailboxCause};
-use crate::finding::{Finding, find};
+use crate::finding::Finding;
 use crate::section::Section;
 use crate::tables::KnownBoard;
 use std::alloc::AllocError;
@@ -8,7 +8,10 @@ use vme_am::{Am, Space};
 use vme_config_toml::MailboxTable;
 use vme_decode::AddressMap;
 use vme_positions::Key;
-use vme_script::{BoardRange, Mailbox, mailbox_from_table};
+use vme_script::{
+    BoardRange, Mailbox, check_address, check_apart, check_code, check_inside, check_modify,
+    check_slots, check_width, mailbox_from_table, place_of,
+};
 
 /// The bit of a code that states supervisory privilege.
 pub(crate) const SUPERVISORY: u8 = 0x04;
@@ -16,21 +19,22 @@ pub(crate) const SUPERVISORY: u8 = 0x04;
 /// What is known of a mailbox.
 #[derive(Clone, Copy)]
 pub(crate) struct KnownMailbox {
-    /// Its numbers, if each of them is lawful by itself.
-    pub mailbox: Option<Mailbox>,
-    /// Its bytes, if they are known to lie within one board.
-    pub range: Option<BoardRange>,
-    /// Whether all of it is known and lawful.
-    pub is_lawful: bool,
+    /// The mailbox, if all of it is known and lawful.
+    pub lawful: Option<Mailbox>,
+    /// Its bytes, or no bytes if they are not known to be within one board.
+    pub place: BoardRange,
 }
 
 impl KnownMailbox {
     /// A mailbox of which nothing is known.
     pub(crate) fn unknown() -> KnownMailbox {
         KnownMailbox {
-            mailbox: None,
-            range: None,
-            is_lawful: false,
+            lawful: None,
+            place: BoardRange {
+                board: 0,
+                offset: 0,
+                len: 0,
+            },
         }
     }
 }
@@ -56,14 +60,18 @@ pub(crate) fn read_keys(
     Ok(MailboxKeys { am, addr, slots })
 }
 
-/// Whether a mailbox may have these numbers.
-fn may_have(am: u32, addr: u32, slots: u32) -> bool {
-    mailbox_from_table(MailboxTable { am, addr, slots }).is_some()
+/// Finds the fault of the value of `key`, if there is one.
+fn judge(
+    section: &Section<'_>,
+    key: Key,
+    judged: Option<Result<(), MailboxCause>>,
+    found: &mut Vec<Finding>,
+) -> Result<(), AllocError> {
+    match judged {
+        Some(Err(cause)) => section.find_at(key, Cause::Mailbox(cause), found),
+        _ => Ok(()),
+    }
 }
-
-/// A lawful code, address and number of slots. Each number of a mailbox is tested with the other
-/// two of these.
-const LAWFUL: (u32, u32, u32) = (0x09, 0, 1);
 
 /// Finds the faults of each number by itself. Returns the mailbox if all numbers are known and have
 /// no fault.
@@ -72,29 +80,19 @@ fn check_numbers(
     keys: MailboxKeys,
     found: &mut Vec<Finding>,
 ) -> Result<Option<Mailbox>, AllocError> {
-    let (code, address, number) = LAWFUL;
-    if let Some(am) = keys.am {
-        if !may_have(am, address, number) {
-            let cause = MailboxCause::CodeRange { am };
-            find(found, Cause::Mailbox(cause), section.value_place(Key::Am))?;
-        }
-    }
-    if let Some(addr) = keys.addr {
-        if !may_have(code, addr, number) {
-            let cause = MailboxCause::AddressNotAligned { addr };
-            find(found, Cause::Mailbox(cause), section.value_place(Key::Addr))?;
-        }
-    }
-    if let Some(slots) = keys.slots {
-        if !may_have(code, address, slots) {
-            let cause = MailboxCause::SlotsRange { slots };
-            find(
-                found,
-                Cause::Mailbox(cause),
-                section.value_place(Key::Slots),
-            )?;
-        }
-    }
+    judge(section, Key::Am, keys.am.map(|am| check_code(am)), found)?;
+    judge(
+        section,
+        Key::Addr,
+        keys.addr.map(|addr| check_address(addr)),
+        found,
+    )?;
+    judge(
+        section,
+        Key::Slots,
+        keys.slots.map(|slots| check_slots(slots)),
+        found,
+    )?;
     match (keys.am, keys.addr, keys.slots) {
         (Some(am), Some(addr), Some(slots)) => {
             Ok(mailbox_from_table(MailboxTable { am, addr, slots }))
@@ -104,118 +102,72 @@ fn check_numbers(
 }
 
 /// Finds the faults of a mailbox. `boards` are all boards, and `map` their address map, if it is
-/// known; `earlier` are the mailboxes before it.
+/// known; `earlier` are the bytes of the mailboxes before it.
 pub(crate) fn check(
     section: &Section<'_>,
     keys: MailboxKeys,
     boards: &[KnownBoard<'_>],
     map: Option<&AddressMap>,
-    earlier: &[KnownMailbox],
+    earlier: &[BoardRange],
     found: &mut Vec<Finding>,
 ) -> Result<KnownMailbox, AllocError> {
-    let mailbox = check_numbers(section, keys, found)?;
-    let (Some(numbers), Some(map)) = (mailbox, map) else {
-        return Ok(KnownMailbox {
-            mailbox,
-            range: None,
-            is_lawful: false,
-        });
-    };
-    let Some(range) = BoardRange::of(map, numbers) else {
-        find_no_board(section, boards, numbers, found)?;
+    let (Some(mailbox), Some(map)) = (check_numbers(section, keys, found)?, map) else {
         return Ok(KnownMailbox::unknown());
     };
-    let Some(board) = boards.get(range.board) else {
+    let Ok(place) = place_of(map, mailbox) else {
+        find_no_board(section, boards, mailbox, found)?;
         return Ok(KnownMailbox::unknown());
     };
-    check_place(section, (numbers, range), *board, earlier, found)
+    match boards.get(place.board) {
+        Some(board) => check_place(section, (mailbox, place), *board, earlier, found),
+        None => Ok(KnownMailbox::unknown()),
+    }
 }
 
 /// Finds the faults of a mailbox that begins on a board.
 fn check_place(
     section: &Section<'_>,
-    (mailbox, range): (Mailbox, BoardRange),
+    (mailbox, place): (Mailbox, BoardRange),
     board: KnownBoard<'_>,
-    earlier: &[KnownMailbox],
+    earlier: &[BoardRange],
     found: &mut Vec<Finding>,
 ) -> Result<KnownMailbox, AllocError> {
     let size = match board.entry {
         Some(entry) => entry.size,
         None => 0,
     };
-    if !range.is_within(size) {
-        let cause = MailboxCause::TooLong {
-            slots: u32::from(mailbox.slots),
-            needed: range.len,
-            board: board.name(range.board),
-            left: size.saturating_sub(range.offset),
-        };
-        find(
-            found,
-            Cause::Mailbox(cause),
-            section.value_place(Key::Slots),
-        )?;
+    let inside = check_inside(mailbox, place, board.name(place.board), size);
+    judge(section, Key::Slots, Some(inside), found)?;
+    if inside.is_err() {
         return Ok(KnownMailbox::unknown());
     }
-    let cause = match class_cause(board, range.board) {
-        Some(cause) => Some(cause),
-        None => shared_with(range, earlier),
-    };
-    if let Some(cause) = cause {
-        find(found, Cause::Mailbox(cause), section.value_place(Key::Addr))?;
-    }
-    let is_able = board.width == Some(32) && board.rmw == Some(true);
+    let judged = board_judged(board, place, earlier);
+    judge(section, Key::Addr, Some(judged), found)?;
+    let is_known = board.width.is_some() && board.rmw.is_some();
     Ok(KnownMailbox {
-        mailbox: Some(mailbox),
-        range: Some(range),
-        is_lawful: cause.is_none() && is_able,
+        lawful: match judged {
+            Ok(()) if is_known => Some(mailbox),
+            _ => None,
+        },
+        place,
     })
 }
 
-/// What the board, which has this index, lacks for a mailbox.
-fn class_cause(board: KnownBoard<'_>, index: usize) -> Option<MailboxCause> {
-    match (board.width, board.rmw) {
-        (Some(width), _) if width != 32 => Some(MailboxCause::NarrowBoard {
-            board: board.name(index),
-            width,
-        }),
-        (_, Some(false)) => Some(MailboxCause::NoModify {
-            board: board.name(index),
-        }),
-        _ => None,
+/// The judgement of a mailbox's board by what is known of it, and else of the bytes of earlier
+/// mailboxes.
+fn board_judged(
+    board: KnownBoard<'_>,
+    place: BoardRange,
+    earlier: &[BoardRange],
+) -> Result<(), MailboxCause> {
+    let name = board.name(place.board);
+    if let Some(width) = board.width {
+        check_width(name, width)?;
     }
-}
-
-/// The offset of the last byte of a range.
-pub(crate) fn last_byte(range: BoardRange) -> u32 {
-    range.offset.saturating_add(range.len.saturating_sub(1))
-}
-
-/// The first mailbox with which a range shares a byte.
-pub(crate) fn first_shared(
-    range: BoardRange,
-    mailboxes: &[KnownMailbox],
-) -> Option<(usize, BoardRange)> {
-    for (index, mailbox) in mailboxes.iter().enumerate() {
-        if let Some(other) = mailbox.range {
-            if range.shares_any(&[other]) {
-                return Some((index, other));
-            }
-        }
+    if let Some(rmw) = board.rmw {
+        check_modify(name, rmw)?;
     }
-    None
-}
-
-/// The cause of a mailbox that shares a byte with an earlier one, if it does.
-fn shared_with(range: BoardRange, earlier: &[KnownMailbox]) -> Option<MailboxCause> {
-    match first_shared(range, earlier) {
-        Some((other, shared)) => Some(MailboxCause::Shared {
-            other,
-            low: shared.offset,
-            high: last_byte(shared),
-        }),
-        None => None,
-    }
+    check_apart(place, earlier)
 }
 
 /// The board that has an address of a space, by its index, whatever the privilege of the code.
@@ -260,7 +212,7 @@ fn find_no_board(
                 am,
                 instead: am | SUPERVISORY,
             };
-            return find(found, Cause::Mailbox(cause), section.value_place(Key::Am));
+            return section.find_at(Key::Am, Cause::Mailbox(cause), found);
         }
     }
     let cause = MailboxCause::NoBoardThere {
@@ -269,5 +221,5 @@ fn find_no_board(
         space,
         there: space_with(boards, addr),
     };
-    find(found, Cause::Mailbox(cause), section.value_place(Key::Addr))
+    section.find_at(Key::Addr, Cause::Mailbox(cause), found)
 }

@@ -6,9 +6,7 @@ use crate::tables::KnownBoard;
 use std::alloc::{AllocError, Global};
 use toml::Value;
 use vme_positions::{Key, Place};
-
-/// The greatest number of tries, of rounds, and of the turns of a schedule.
-const MOST_TURNS: u32 = 1_000_000;
+use vme_script::{MOST_TURNS, check_rounds, check_tries, kind_named};
 
 /// Finds the faults of the tries and the rounds, and of the arbiter's name.
 pub(crate) fn check_numbers(
@@ -16,32 +14,28 @@ pub(crate) fn check_numbers(
     found: &mut Vec<Finding>,
 ) -> Result<(), AllocError> {
     if let Some(word) = section.str_or(Key::Arbiter, "priority", found)? {
-        if word != "priority" && word != "rotating" {
-            let place = section.value_place(Key::Arbiter);
-            find(found, Cause::Schedule(ScheduleCause::NoArbiter), place)?;
-        }
+        find_fault(section, Key::Arbiter, kind_named(word).err(), found)?;
     }
     if let Some(tries) = section.whole_or(Key::Tries, 1000, found)? {
-        if tries < 1 || tries > MOST_TURNS {
-            let place = section.value_place(Key::Tries);
-            find(
-                found,
-                Cause::Schedule(ScheduleCause::TriesRange { tries }),
-                place,
-            )?;
-        }
+        find_fault(section, Key::Tries, check_tries(tries).err(), found)?;
     }
     if let Some(rounds) = section.whole_or(Key::Rounds, 0, found)? {
-        if rounds > MOST_TURNS {
-            let place = section.value_place(Key::Rounds);
-            find(
-                found,
-                Cause::Schedule(ScheduleCause::RoundsRange { rounds }),
-                place,
-            )?;
-        }
+        find_fault(section, Key::Rounds, check_rounds(rounds).err(), found)?;
     }
     Ok(())
+}
+
+/// Finds a fault of the value of `key`, if there is one.
+fn find_fault(
+    section: &Section<'_>,
+    key: Key,
+    fault: Option<ScheduleCause>,
+    found: &mut Vec<Finding>,
+) -> Result<(), AllocError> {
+    match fault {
+        Some(cause) => section.find_at(key, Cause::Schedule(cause), found),
+        None => Ok(()),
+    }
 }
 
 /// The slot and the turns of an element of `schedule`, each `None` if it is out of range, which is

@@ -7,19 +7,13 @@ ghost use Rattle.vme_faults.specs.Lines.{fault_of, refusal_for, line_refusals};
 
 use crate::cause::{BoardName, LineCause};
 use crate::fields::{LocatedCause, cause_of};
-use crate::mailboxes::{KnownMailbox, first_shared, last_byte};
 use crate::tables::KnownBoard;
 use crate::words::{WordSpan, span_of};
 use std::alloc::{AllocError, Global};
-use vme_cycle::{Plan, Request};
 use vme_decode::AddressMap;
 use vme_grammar::{Line, LineFault, parse_line};
 use vme_lexer::Lines;
-use vme_memory::BoardCmd;
-use vme_script::{BoardRange, ScriptContext};
-
-/// The greatest number of lines of a script.
-pub(crate) const MOST_LINES: u16 = 1000;
+use vme_script::{BoardRange, MOST_LINES, MailboxNumbers, ScriptContext, line_bytes};
 
 /// What the causes of a script's lines name: boards and mailboxes of the file.
 #[derive(Clone, Copy)]
@@ -28,8 +22,8 @@ pub(crate) struct Surroundings<'a> {
     pub boards: &'a [KnownBoard<'a>],
     /// The address map of all boards, if their ranges are known and share no address.
     pub map: Option<&'a AddressMap>,
-    /// The mailboxes.
-    pub mailboxes: &'a [KnownMailbox],
+    /// The bytes of the mailboxes.
+    pub mailboxes: &'a [BoardRange],
     /// The number of mailbox tables, lawful or not, if it is known.
     pub declared: Option<usize>,
     /// The board of the script, by its index.
@@ -124,22 +118,12 @@ fn no_mailbox(text: &[u8], line: &Line, declared: usize) -> LocatedCause
     }
 }
 
-/// Whether a line names a mailbox other than the declared ones.
-fn names_other(line: &Line, declared: usize) -> bool {
-    match line {
-        Line::Put { mailbox, .. } | Line::Take { mailbox } => {
-            *mailbox == 0 || usize::from(*mailbox) > declared
-        }
-        _ => false,
-    }
-}
-
 /// The fault of a line if of its context only the number of mailboxes may be known.
 pub(crate) fn fault_alone(text: &[u8], around: &Surroundings<'_>) -> Option<LocatedCause> {
     match parse_line(text) {
         Ok(Some(line)) => {
             let declared = around.declared?;
-            if names_other(&line, declared) {
+            if !MailboxNumbers::Declared(declared).may_name(&line) {
                 return Some(no_mailbox(text, &line, declared));
             }
             None
@@ -161,7 +145,7 @@ fn touching(text: &[u8], line: &Line, around: &Surroundings<'_>) -> LocatedCause
             len: 0,
         },
     };
-    let (mailbox, range) = match first_shared(bytes, around.mailboxes) {
+    let (mailbox, range) = match bytes.first_shared(around.mailboxes) {
         Some(shared) => shared,
         None => (0, bytes),
     };
@@ -177,10 +161,10 @@ fn touching(text: &[u8], line: &Line, around: &Surroundings<'_>) -> LocatedCause
         cause: LineCause::TouchesMailbox {
             board,
             low: bytes.offset,
-            high: last_byte(bytes),
+            high: bytes.last(),
             mailbox,
             mailbox_low: range.offset,
-            mailbox_high: last_byte(range),
+            mailbox_high: range.last(),
         },
         span: span_of(text, word),
     }
@@ -188,40 +172,5 @@ fn touching(text: &[u8], line: &Line, around: &Surroundings<'_>) -> LocatedCause
 
 /// The bytes that a line accesses, if the address map is known.
 fn bytes_around(line: &Line, around: &Surroundings<'_>) -> Option<BoardRange> {
-    line_bytes(line, around.map?, around.board)
-}
-
-/// The bytes that a line of the script of a board accesses. A put and a take access none.
-pub(crate) fn line_bytes(line: &Line, map: &AddressMap, board: usize) -> Option<BoardRange> {
-    match line {
-        Line::Bus(request) => request_bytes(map, request),
-        Line::Local(command) => local_bytes(board, command),
-        Line::Await { am, addr, bytes } => {
-            BoardRange::at(map, *am, *addr, bytes.as_slice().len() as u32)
-        }
-        Line::Lock { am, addr } | Line::Unlock { am, addr } => BoardRange::at(map, *am, *addr, 1),
-        Line::Put { .. } | Line::Take { .. } => None,
-    }
-}
-
-/// The bytes that a request accesses, if it is lawful and selects a board.
-fn request_bytes(map: &AddressMap, request: &Request) -> Option<BoardRange> {
-    let Ok(plan) = Plan::of(request) else {
-        return None;
-    };
-    let (board, offset) = map.select_at(plan.am(), plan.addr())?;
-    let len = u32::from(plan.datum_len()) * u32::from(plan.len());
-    Some(BoardRange { board, offset, len })
-}
-
-/// The bytes that a command to the local port of a board accesses.
-fn local_bytes(board: usize, command: &BoardCmd) -> Option<BoardRange> {
-    let (offset, len) = match command {
-        BoardCmd::LocalRead { offset, n } | BoardCmd::LocalModify { offset, n, .. } => {
-            (*offset, u32::from(*n))
-        }
-        BoardCmd::LocalWrite { offset, bytes } => (*offset, bytes.as_slice().len() as u32),
-        BoardCmd::Cycle { .. } => return None,
-    };
-    Some(BoardRange { board, offset, len })
+    line_bytes(around.map?, around.board, line)
 }

@@ -1,5 +1,10 @@
 //! The keys and values of a table, and their faults: unknown and absent keys, and values of another
 //! kind or out of range.
+ghost use Rattle.std.specs.Prelude.{◌≡◌, ◌∷◌, ◌++◌, [], map, IfOk};
+ghost use Rattle.vme_positions.specs.declared.place.Place.TheVariants as places;
+ghost use Rattle.vme_faults.specs.Causes.{refusal_of};
+ghost use Rattle.vme_faults.specs.Sites.{sited};
+
 use crate::cause::{Cause, DocumentCause, ValueKind};
 use crate::finding::{Finding, find};
 use std::alloc::AllocError;
@@ -27,12 +32,27 @@ impl<'a> Section<'a> {
     }
 
     /// The place of the value of `key`.
-    pub(crate) fn value_place(&self, key: Key) -> Place {
+    pub(crate) fn value_place(&self, key: Key) -> Place
+        ensures { result ≡ places.Value self.now.table self.now.index key }
+    {
         Place::Value {
             table: self.table,
             index: self.index,
             key,
         }
+    }
+
+    /// Finds a fault of the value of `key`.
+    pub(crate) fn find_at(
+        &self,
+        key: Key,
+        cause: Cause,
+        found: &mut Vec<Finding>,
+    ) -> Result<(), AllocError>
+        ensures { IfOk result (λ _. map sited found.new.items ≡ map sited found.old.items
+            ++ (places.Value self.now.table self.now.index key, refusal_of cause) ∷ []) }
+    {
+        find(found, cause, self.value_place(key))
     }
 
     /// The value of `key`.
@@ -84,7 +104,7 @@ impl<'a> Section<'a> {
             found: kind,
             wanted,
         };
-        find(found, Cause::Document(cause), self.value_place(key))
+        self.find_at(key, Cause::Document(cause), found)
     }
 
     /// The whole number at a required key, if it has no fault.

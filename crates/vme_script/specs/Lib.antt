@@ -5,6 +5,7 @@ pub mod Bytes
 pub mod Declarations
 pub mod Contexts
 pub mod Answers
+pub mod Causes
 pub mod Boards
 pub mod Arbiters
 pub mod Schedules

@@ -1,18 +1,21 @@
-//! The boards of a configuration, and their checks.
-ghost use Rattle.std.specs.Prelude.{◌≡◌, ◌≤◌, length, true, IfOk};
-ghost use Rattle.vme_script.specs.Answers.{Gives};
+//! The boards of a configuration, and the rules for each of their values.
+ghost use Rattle.std.specs.Prelude.{◌≡◌, ◌≤◌, ◌+◌, ◌%◌, nat_lt, nat_le, not, ◌==◌, ◌&&◌, length, true, IfOk};
+ghost use Rattle.std.specs.Option.{ok_or};
+ghost use Rattle.vme_am.specs.Spaces.{addresses_of};
+ghost use Rattle.vme_memory.specs.Boards.{is_board_size};
+ghost use Rattle.vme_script.specs.declared.fault.ConfigFault.TheVariants.{BadSlot, BadLevel, BadWord, BadSize, Misaligned, OutsideSpace};
+ghost use Rattle.vme_script.specs.Answers.{Gives, refuse};
+ghost use Rattle.vme_script.specs.Causes.{board_refusal, refused_as};
 ghost use Rattle.vme_script.specs.Boards.{space_named, width_of, entry_of, class_of, range_refused, entries_of, map_of, board_config, boards_after, have_ranges};
 
+use crate::cause::BoardCause;
 use crate::fault::ConfigFault;
+use crate::limits::{LAST_LEVEL, LAST_SLOT};
 use std::alloc::{AllocError, Global};
 use vme_am::Space;
-use vme_arbiter::SLOTS;
 use vme_config_toml::{BoardTable, ClassTable, RangeTable};
 use vme_decode::{AddressMap, Entry, MapFault};
 use vme_memory::{ByteMemory, Class, Width8To32};
-
-/// The greatest request level.
-const LAST_LEVEL: u32 = 3;
 
 /// A board as a file configures it.
 #[derive(Clone, Copy, Debug, PartialEq, Eq)]
@@ -27,38 +30,116 @@ pub struct BoardConfig {
     pub class: Class,
 }
 
-/// The address space that `word` names.
+/// Checks a slot: it is from 1 to 21, and above `before`, the slot of the board with index `other`,
+/// or 0 if there is none.
+pub fn check_slot(before: u32, other: usize, slot: u32) -> Result<(), BoardCause>
+    ensures { refused_as board_refusal result ≡
+        refuse (not (nat_lt before slot && nat_le slot 21)) BadSlot }
+{
+    if slot < 1 || slot > LAST_SLOT {
+        return Err(BoardCause::SlotRange { slot });
+    }
+    if slot == before {
+        return Err(BoardCause::SlotTaken { slot, other });
+    }
+    if slot < before {
+        return Err(BoardCause::SlotOrder {
+            slot,
+            before,
+            other,
+        });
+    }
+    Ok(())
+}
+
+/// Checks a request level: it is at most 3.
+pub fn check_level(level: u32) -> Result<(), BoardCause>
+    ensures { refused_as board_refusal result ≡ refuse (nat_lt 3 level) BadLevel }
+{
+    if level > LAST_LEVEL {
+        return Err(BoardCause::LevelRange { level });
+    }
+    Ok(())
+}
+
+/// Returns the address space that `word` names.
 #[tactic(auto, unfolding(crate::specs::Boards::space_named))]
-fn space_named(word: &str) -> Option<Space>
-    ensures { result ≡ space_named word.now }
+pub fn space_named(word: &str) -> Result<Space, BoardCause>
+    ensures { refused_as board_refusal result ≡ ok_or (space_named word.now) BadWord }
 {
     match word {
-        "a16" => Some(Space::A16),
-        "a24" => Some(Space::A24),
-        "a32" => Some(Space::A32),
-        _ => None,
+        "a16" => Ok(Space::A16),
+        "a24" => Ok(Space::A24),
+        "a32" => Ok(Space::A32),
+        _ => Err(BoardCause::NoSpace),
     }
 }
 
-/// The width of a slave with this number of data lines.
+/// Returns the width of a slave with this number of data lines.
 #[tactic(auto, unfolding(crate::specs::Boards::width_of))]
-fn width_of(lines: u32) -> Option<Width8To32>
-    ensures { result ≡ width_of lines }
+pub fn width_of(lines: u32) -> Result<Width8To32, BoardCause>
+    ensures { refused_as board_refusal result ≡ ok_or (width_of lines) BadWord }
 {
     match lines {
-        8 => Some(Width8To32::D08),
-        16 => Some(Width8To32::D16),
-        32 => Some(Width8To32::D32),
-        _ => None,
+        8 => Ok(Width8To32::D08),
+        16 => Ok(Width8To32::D16),
+        32 => Ok(Width8To32::D32),
+        _ => Err(BoardCause::NoWidth { width: lines }),
     }
+}
+
+/// Checks that only a slave of 32 data lines has unaligned transfers.
+pub fn check_unaligned(uat: bool, width: u32) -> Result<(), BoardCause>
+    ensures { refused_as board_refusal result ≡ refuse (uat && not (width == 32)) BadWord }
+{
+    if uat && width != 32 {
+        return Err(BoardCause::UnalignedWidth { width });
+    }
+    Ok(())
+}
+
+/// Checks the number of bytes of a board: it is from 4 to 1,048,576, and a multiple of four.
+pub fn check_size(size: u32) -> Result<(), BoardCause>
+    ensures { refused_as board_refusal result ≡ refuse (not (is_board_size size)) BadSize }
+{
+    if ByteMemory::is_size(size) {
+        return Ok(());
+    }
+    if size % 4 != 0 && ByteMemory::is_size((size | 3).saturating_add(1)) {
+        return Err(BoardCause::SizeNotAligned { size });
+    }
+    Err(BoardCause::SizeRange { size })
+}
+
+/// Checks the first address of a board: it is a multiple of four.
+pub fn check_base(base: u32) -> Result<(), BoardCause>
+    ensures { refused_as board_refusal result ≡ refuse (not (base % 4 == 0)) Misaligned }
+{
+    if base % 4 != 0 {
+        return Err(BoardCause::BaseNotAligned { base });
+    }
+    Ok(())
+}
+
+/// Checks that `size` bytes from `base` on end within a space.
+pub fn check_end(space: Space, base: u32, size: u32) -> Result<(), BoardCause>
+    ensures { refused_as board_refusal result ≡
+        refuse (nat_lt (addresses_of space) (base + size)) OutsideSpace }
+{
+    let end = u64::from(base) + u64::from(size);
+    if end > space.addresses() {
+        let last = end - 1;
+        return Err(BoardCause::OutsideSpace { space, last });
+    }
+    Ok(())
 }
 
 /// The range of a board.
 #[tactic(auto, unfolding(crate::specs::Boards::entry_of))]
-fn entry_of(range: &RangeTable<'_>) -> Result<Entry, ConfigFault>
-    ensures { result ≡ entry_of range.now }
+fn entry_of(range: &RangeTable<'_>) -> Result<Entry, BoardCause>
+    ensures { refused_as board_refusal result ≡ entry_of range.now }
 {
-    let space = space_named(range.space).ok_or(ConfigFault::BadWord)?;
+    let space = space_named(range.space)?;
     Ok(Entry {
         space,
         base: range.base,
@@ -69,13 +150,11 @@ fn entry_of(range: &RangeTable<'_>) -> Result<Entry, ConfigFault>
 
 /// The class of a board.
 #[tactic(auto, unfolding(crate::specs::Boards::class_of))]
-fn class_of(class: ClassTable) -> Result<Class, ConfigFault>
-    ensures { result ≡ class_of class }
+fn class_of(class: ClassTable) -> Result<Class, BoardCause>
+    ensures { refused_as board_refusal result ≡ class_of class }
 {
-    let width = width_of(class.width).ok_or(ConfigFault::BadWord)?;
-    if class.uat && class.width != 32 {
-        return Err(ConfigFault::BadWord);
-    }
+    let width = width_of(class.width)?;
+    check_unaligned(class.uat, class.width)?;
     Ok(Class {
         width,
         uat: class.uat,
@@ -86,32 +165,25 @@ fn class_of(class: ClassTable) -> Result<Class, ConfigFault>
 
 /// Checks a board's range: its size, its base, and that it ends within its space.
 #[tactic(auto, unfolding(crate::specs::Boards::range_refused))]
-fn check_range(entry: Entry) -> Result<(), ConfigFault>
-    ensures { result ≡ range_refused entry }
+fn check_range(entry: Entry) -> Result<(), BoardCause>
+    ensures { refused_as board_refusal result ≡ range_refused entry }
 {
-    if !ByteMemory::is_size(entry.size) {
-        return Err(ConfigFault::BadSize);
-    }
-    if entry.base % 4 != 0 {
-        return Err(ConfigFault::Misaligned);
-    }
-    if u64::from(entry.base) + u64::from(entry.size) > entry.space.addresses() {
-        return Err(ConfigFault::OutsideSpace);
-    }
-    Ok(())
+    check_size(entry.size)?;
+    check_base(entry.base)?;
+    check_end(entry.space, entry.base, entry.size)
 }
 
-/// The configuration of a board that follows the board in slot `before`.
+/// The configuration of a board that follows the board in slot `before`, which has index `other`.
 #[tactic(auto, unfolding(crate::specs::Boards::board_config))]
-fn board_config(before: u32, board: &BoardTable<'_>) -> Result<BoardConfig, ConfigFault>
-    ensures { result ≡ board_config before board.now }
+fn board_config(
+    before: u32,
+    other: usize,
+    board: &BoardTable<'_>,
+) -> Result<BoardConfig, BoardCause>
+    ensures { refused_as board_refusal result ≡ board_config before board.now }
 {
-    if board.slot <= before || board.slot > u32::from(SLOTS) {
-        return Err(ConfigFault::BadSlot);
-    }
-    if board.level > LAST_LEVEL {
-        return Err(ConfigFault::BadLevel);
-    }
+    check_slot(before, other, board.slot)?;
+    check_level(board.level)?;
     let entry = entry_of(&board.range)?;
     let class = class_of(board.class)?;
     check_range(entry)?;
@@ -133,7 +205,8 @@ pub(crate) fn board_configs(
     let mut configs = Vec::with_capacity(alloc, boards.len())?;
     let mut before = 0;
     for board in boards {
-        configs.push(board_config(before, board)?)?;
+        let other = configs.len().saturating_sub(1);
+        configs.push(board_config(before, other, board)?)?;
         before = board.slot;
     }
     Ok(configs)

@@ -1,5 +1,5 @@
 //! Ranges of bytes on the boards.
-ghost use Rattle.std.specs.Prelude.{◌≡◌, ◌+◌, ◌<◌, length, IfSome};
+ghost use Rattle.std.specs.Prelude.{◌≡◌, ◌+◌, ◌<◌, length, is_some, IfSome};
 ghost use Rattle.std.specs.List.{list_any};
 ghost use Rattle.vme_script.specs.BoardRanges.{range_at, range_of, is_within, share};
 
@@ -60,6 +60,11 @@ impl BoardRange {
         self.end() <= u64::from(size)
     }
 
+    /// Returns the offset of the last byte, or the first offset if the range has no byte.
+    pub fn last(self) -> u32 {
+        self.offset.saturating_add(self.len.saturating_sub(1))
+    }
+
     /// Whether the two ranges share a byte.
     pub(crate) fn shares(self, other: BoardRange) -> bool
         ensures { result ≡ share self other }
@@ -68,10 +73,15 @@ impl BoardRange {
         self.board == other.board && start < self.end().min(other.end())
     }
 
-    /// Returns whether the range shares a byte with one of `others`.
-    pub fn shares_any(self, others: &[BoardRange]) -> bool
-        ensures shared { result ≡ list_any (share self) others.now }
+    /// Returns the first of `others` with which the range shares a byte, and its index.
+    pub fn first_shared(self, others: &[BoardRange]) -> Option<(usize, BoardRange)>
+        ensures shared { is_some result ≡ list_any (share self) others.now }
     {
-        others.iter().any(|other| self.shares(*other))
+        for (index, other) in others.iter().enumerate() {
+            if self.shares(*other) {
+                return Some((index, *other));
+            }
+        }
+        None
     }
 }

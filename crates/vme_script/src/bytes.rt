@@ -2,17 +2,18 @@
 ghost use Rattle.std.specs.Prelude.{◌≡◌, length};
 ghost use Rattle.vme_cycle.specs.declared.request.Request.TheVariants.{Read};
 ghost use Rattle.vme_shared.specs.Mailboxes.{set_lock, clear_lock};
-ghost use Rattle.vme_script.specs.Bytes.{request_bytes, local_bytes};
+ghost use Rattle.vme_script.specs.Bytes.{request_bytes, local_bytes, line_bytes};
 
 use crate::board_range::BoardRange;
 use vme_cycle::{Modify, Plan, Request};
 use vme_decode::AddressMap;
+use vme_grammar::Line;
 use vme_lanes::Datum;
 use vme_memory::BoardCmd;
 
 /// The bytes of a request to the bus.
 #[tactic(auto, unfolding(crate::specs::Bytes::request_bytes))]
-pub(crate) fn request_bytes(map: &AddressMap, request: &Request) -> Option<BoardRange>
+fn request_bytes(map: &AddressMap, request: &Request) -> Option<BoardRange>
     ensures { result ≡ request_bytes map.now request.now }
 {
     let Ok(plan) = Plan::of(request) else {
@@ -24,7 +25,7 @@ pub(crate) fn request_bytes(map: &AddressMap, request: &Request) -> Option<Board
 }
 
 /// The bytes of a read that waits for `bytes`.
-pub(crate) fn await_bytes(map: &AddressMap, am: u8, addr: u32, bytes: &Datum) -> Option<BoardRange>
+fn await_bytes(map: &AddressMap, am: u8, addr: u32, bytes: &Datum) -> Option<BoardRange>
     ensures { result ≡ request_bytes map.now (Read am addr (length bytes.now.items)) }
 {
     let n = bytes.as_slice().len() as u8;
@@ -32,7 +33,7 @@ pub(crate) fn await_bytes(map: &AddressMap, am: u8, addr: u32, bytes: &Datum) ->
 }
 
 /// The byte of a lock, as taking the lock accesses it.
-pub(crate) fn lock_bytes(map: &AddressMap, am: u8, addr: u32) -> Option<BoardRange>
+fn lock_bytes(map: &AddressMap, am: u8, addr: u32) -> Option<BoardRange>
     ensures { result ≡ request_bytes map.now (set_lock am addr) }
 {
     let f = Modify::Set;
@@ -40,7 +41,7 @@ pub(crate) fn lock_bytes(map: &AddressMap, am: u8, addr: u32) -> Option<BoardRan
 }
 
 /// The byte of a lock, as freeing the lock accesses it.
-pub(crate) fn unlock_bytes(map: &AddressMap, am: u8, addr: u32) -> Option<BoardRange>
+fn unlock_bytes(map: &AddressMap, am: u8, addr: u32) -> Option<BoardRange>
     ensures { result ≡ request_bytes map.now (clear_lock am addr) }
 {
     let bytes = Datum::try_from(&[0][..]).unwrap();
@@ -48,7 +49,7 @@ pub(crate) fn unlock_bytes(map: &AddressMap, am: u8, addr: u32) -> Option<BoardR
 }
 
 /// The bytes of a command to the local port of a board.
-pub(crate) fn local_bytes(board: usize, command: &BoardCmd) -> Option<BoardRange>
+fn local_bytes(board: usize, command: &BoardCmd) -> Option<BoardRange>
     ensures { result ≡ local_bytes board command.now }
 {
     let (offset, len) = match command {
@@ -59,4 +60,19 @@ pub(crate) fn local_bytes(board: usize, command: &BoardCmd) -> Option<BoardRange
         BoardCmd::Cycle { .. } => return None,
     };
     Some(BoardRange { board, offset, len })
+}
+
+/// Returns the bytes that a line of the script of a board accesses. `board` is the index of that
+/// board. A put and a take access none.
+pub fn line_bytes(map: &AddressMap, board: usize, line: &Line) -> Option<BoardRange>
+    ensures { result ≡ line_bytes map.now board line.now }
+{
+    match line {
+        Line::Bus(request) => request_bytes(map, request),
+        Line::Local(command) => local_bytes(board, command),
+        Line::Await { am, addr, bytes } => await_bytes(map, *am, *addr, bytes),
+        Line::Lock { am, addr } => lock_bytes(map, *am, *addr),
+        Line::Unlock { am, addr } => unlock_bytes(map, *am, *addr),
+        Line::Put { .. } | Line::Take { .. } => None,
+    }
 }

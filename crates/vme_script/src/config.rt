@@ -11,12 +11,13 @@ use crate::arbiter::kind_named;
 use crate::board::{BoardConfig, board_configs, map_of};
 use crate::context::{MailboxDeclarations, ScriptContext};
 use crate::fault::{ConfigFault, ScriptFault};
+use crate::limits::MOST_BOARDS;
 use crate::mailboxes::mailboxes_of;
 use crate::schedule::schedule_of;
 use crate::script::Script;
 use std::alloc::Global;
 use std::marker::Model;
-use vme_arbiter::{Arbiter, ArbiterKind, SLOTS};
+use vme_arbiter::{Arbiter, ArbiterKind};
 use vme_config_toml::{BoardTable, FileTable};
 use vme_core::OutOfMemory;
 use vme_decode::AddressMap;
@@ -79,7 +80,7 @@ impl Config {
         if file.boards.is_empty() {
             return Err(ConfigFault::NoBoard);
         }
-        if file.boards.len() > usize::from(SLOTS) {
+        if file.boards.len() > MOST_BOARDS {
             return Err(ConfigFault::TooMany);
         }
         let boards = board_configs(alloc, &file.boards)?;

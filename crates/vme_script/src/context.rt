@@ -5,7 +5,7 @@ ghost use Rattle.vme_script.specs.Bytes.{line_bytes};
 ghost use Rattle.vme_script.specs.Contexts.{boxes_of, is_of_mailbox, are_of_mailboxes, touches, refusal_of};
 
 use crate::board_range::BoardRange;
-use crate::bytes::{await_bytes, local_bytes, lock_bytes, request_bytes, unlock_bytes};
+use crate::bytes::line_bytes;
 use crate::mailbox_numbers::MailboxNumbers;
 use std::marker::Model;
 use vme_decode::AddressMap;
@@ -45,20 +45,6 @@ pub enum ScriptContext<'a> {
 }
 
 impl<'a> MailboxDeclarations<'a> {
-    /// The bytes that a line accesses.
-    fn line_bytes(&self, line: &Line) -> Option<BoardRange>
-        ensures { result ≡ line_bytes self.now.entries self.now.board line.now }
-    {
-        match line {
-            Line::Bus(request) => request_bytes(self.map, request),
-            Line::Local(command) => local_bytes(self.board, command),
-            Line::Await { am, addr, bytes } => await_bytes(self.map, *am, *addr, bytes),
-            Line::Lock { am, addr } => lock_bytes(self.map, *am, *addr),
-            Line::Unlock { am, addr } => unlock_bytes(self.map, *am, *addr),
-            Line::Put { .. } | Line::Take { .. } => None,
-        }
-    }
-
     /// Whether one of `bytes` belongs to `mailbox`.
     fn is_of_mailbox(&self, bytes: BoardRange, mailbox: Mailbox) -> bool
         ensures { result ≡ is_of_mailbox self.now.entries bytes mailbox }
@@ -87,7 +73,7 @@ impl<'a> MailboxDeclarations<'a> {
         if self.mailboxes.is_empty() {
             return false;
         }
-        match self.line_bytes(line) {
+        match line_bytes(self.map, self.board, line) {
             Some(bytes) => self.are_of_mailboxes(bytes),
             None => false,
         }

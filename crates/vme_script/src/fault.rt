@@ -69,6 +69,29 @@ pub enum ConfigFault {
     OutOfMemory,
 }
 
+impl ConfigFault {
+    /// Returns the number of the refusal, as `C7`; of a script that of its line's refusal, as `S4`.
+    pub fn code(self) -> &'static str {
+        match self {
+            ConfigFault::NotToml => "C6",
+            ConfigFault::BadKey => "C7",
+            ConfigFault::NoBoard => "C11",
+            ConfigFault::TooMany => "C4",
+            ConfigFault::BadSlot => "C8",
+            ConfigFault::BadLevel => "C9",
+            ConfigFault::BadWord => "C10",
+            ConfigFault::BadSize => "C5",
+            ConfigFault::Misaligned => "C3",
+            ConfigFault::OutsideSpace => "C2",
+            ConfigFault::Overlap => "C1",
+            ConfigFault::BadSchedule => "C12",
+            ConfigFault::BadMailbox => "C13",
+            ConfigFault::BadScript { refusal, .. } => refusal.code(),
+            ConfigFault::OutOfMemory => "memory",
+        }
+    }
+}
+
 impl From<AllocError> for ConfigFault {
     ghost from_gives = { λ _ fault. fault ≡ OutOfMemory };
 
@@ -109,6 +132,25 @@ pub enum ScriptRefusal {
     /// line over the limit.
     #[error("line 1001 S8")]
     TooManyLines,
+}
+
+impl ScriptRefusal {
+    /// Returns the number of the refusal, as `S4`.
+    pub fn code(self) -> &'static str {
+        match self {
+            ScriptRefusal::TooManyLines => "S8",
+            ScriptRefusal::BadLine { fault, .. } => match fault {
+                LineFault::LineTooLong => "S1",
+                LineFault::UnknownWord => "S2",
+                LineFault::WordCount => "S3",
+                LineFault::BadCode => "S4",
+                LineFault::BadAddress => "S5",
+                LineFault::BadNumber => "S6",
+                LineFault::BadBytes => "S7",
+                LineFault::MailboxBytes => "S9",
+            },
+        }
+    }
 }
 
 /// Why there is no script of a text.

@@ -24,9 +24,9 @@ impl MailboxNumbers {
         }
     }
 
-    /// Whether a line names only mailboxes that it may name.
-    pub(crate) fn may_name(self, line: &Line) -> bool
-        ensures { result ≡ may_name self line.now }
+    /// Returns whether a line names only mailboxes that it may name.
+    pub fn may_name(self, line: &Line) -> bool
+        ensures named { result ≡ may_name self line.now }
     {
         match line {
             Line::Put { mailbox, .. } | Line::Take { mailbox } => self.has(*mailbox),

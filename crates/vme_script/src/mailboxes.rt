@@ -1,20 +1,31 @@
 //! The mailboxes of a configuration, and their checks.
-ghost use Rattle.std.specs.Prelude.{◌≡◌, ◌≤◌, length, IfOk};
-ghost use Rattle.vme_script.specs.Answers.{Gives};
+ghost use Rattle.std.specs.Prelude.{◌≡◌, ◌≤◌, nat_lt, length, IfOk};
+ghost use Rattle.vme_script.specs.declared.fault.ConfigFault.TheVariants.{BadMailbox};
+ghost use Rattle.vme_script.specs.Answers.{Gives, refuse};
+ghost use Rattle.vme_script.specs.Causes.{mailbox_refusal, refused_as};
 ghost use Rattle.vme_script.specs.Boards.{entries_of};
 ghost use Rattle.vme_script.specs.MailboxRefusals.{declared_mailbox, mailboxes_of};
 
 use crate::board::BoardConfig;
 use crate::board_range::BoardRange;
+use crate::cause::{BoardName, MailboxCause};
 use crate::fault::ConfigFault;
-use crate::mailbox::{mailbox_from_table, supports_mailboxes};
+use crate::limits::MOST_MAILBOXES;
+use crate::mailbox::{check_apart, check_class, check_inside, numbers_of, place_of};
 use std::alloc::Global;
 use vme_config_toml::MailboxTable;
 use vme_decode::AddressMap;
 use vme_shared::Mailbox;
 
-/// The greatest number of mailboxes.
-const MOST_MAILBOXES: usize = 16;
+/// Checks the number of mailboxes: it is at most 16.
+pub fn check_count(mailboxes: usize) -> Result<(), MailboxCause>
+    ensures { refused_as mailbox_refusal result ≡ refuse (nat_lt 16 mailboxes) BadMailbox }
+{
+    if mailboxes > MOST_MAILBOXES {
+        return Err(MailboxCause::TooManyMailboxes { mailboxes });
+    }
+    Ok(())
+}
 
 /// The mailbox that a table declares, and its bytes, which share none with `earlier`.
 #[tactic(auto, unfolding(crate::specs::MailboxRefusals::declared_mailbox))]
@@ -23,22 +34,17 @@ fn declared_mailbox(
     map: &AddressMap,
     earlier: &[BoardRange],
     table: MailboxTable,
-) -> Result<(Mailbox, BoardRange), ConfigFault>
+) -> Result<(Mailbox, BoardRange), MailboxCause>
     requires { map.now ≡ entries_of boards.now }
-    ensures { result ≡ declared_mailbox boards.now earlier.now table }
+    ensures { refused_as mailbox_refusal result ≡ declared_mailbox boards.now earlier.now table }
 {
-    let mailbox = mailbox_from_table(table).ok_or(ConfigFault::BadMailbox)?;
-    let place = BoardRange::of(map, mailbox).ok_or(ConfigFault::BadMailbox)?;
-    let board = boards.get(place.board).ok_or(ConfigFault::BadMailbox)?;
-    if !place.is_within(board.entry.size) {
-        return Err(ConfigFault::BadMailbox);
-    }
-    if !supports_mailboxes(board.class) {
-        return Err(ConfigFault::BadMailbox);
-    }
-    if place.shares_any(earlier) {
-        return Err(ConfigFault::BadMailbox);
-    }
+    let mailbox = numbers_of(table)?;
+    let place = place_of(map, mailbox)?;
+    let board = boards[place.board];
+    let name = BoardName::Slot(board.slot);
+    check_inside(mailbox, place, name, board.entry.size)?;
+    check_class(name, board.class)?;
+    check_apart(place, earlier)?;
     Ok((mailbox, place))
 }
 
@@ -54,9 +60,7 @@ pub(crate) fn mailboxes_of(
     ensures mailboxes { Gives (λ mailboxes. mailboxes.items) result (mailboxes_of boards.now tables.now) }
     ensures few { IfOk result (λ mailboxes. length mailboxes.items ≤ 16) }
 {
-    if tables.len() > MOST_MAILBOXES {
-        return Err(ConfigFault::BadMailbox);
-    }
+    check_count(tables.len())?;
     let mut mailboxes = Vec::with_capacity(alloc, tables.len())?;
     let mut places = Vec::with_capacity(alloc, tables.len())?;
     for table in tables {

@@ -1,15 +1,37 @@
 //! The schedule of a configuration, and its checks.
-ghost use Rattle.std.specs.Prelude.{◌≡◌, is_some, IfSome};
-ghost use Rattle.vme_script.specs.Answers.{Gives};
+ghost use Rattle.std.specs.Prelude.{◌≡◌, nat_le, not, ◌&&◌, is_some, IfSome};
+ghost use Rattle.vme_script.specs.declared.fault.ConfigFault.TheVariants.{BadSchedule};
+ghost use Rattle.vme_script.specs.Answers.{Gives, refuse};
+ghost use Rattle.vme_script.specs.Causes.{schedule_refusal, refused_as};
 ghost use Rattle.vme_script.specs.Schedules.{has_slot, lawful_schedule, schedule_of};
 
 use crate::board::BoardConfig;
+use crate::cause::ScheduleCause;
 use crate::fault::ConfigFault;
+use crate::limits::MOST_TURNS;
 use std::alloc::Global;
 use vme_config_toml::FileTable;
 
-/// The greatest number of tries, of rounds, and of the turns of a schedule.
-const MOST_TURNS: u32 = 1_000_000;
+/// Checks the number of tries: it is from 1 to 1,000,000.
+pub fn check_tries(tries: u32) -> Result<(), ScheduleCause>
+    ensures { refused_as schedule_refusal result ≡
+        refuse (not (nat_le 1 tries && nat_le tries 1000000)) BadSchedule }
+{
+    if tries < 1 || tries > MOST_TURNS {
+        return Err(ScheduleCause::TriesRange { tries });
+    }
+    Ok(())
+}
+
+/// Checks the number of rounds: it is at most 1,000,000.
+pub fn check_rounds(rounds: u32) -> Result<(), ScheduleCause>
+    ensures { refused_as schedule_refusal result ≡ refuse (not (nat_le rounds 1000000)) BadSchedule }
+{
+    if rounds > MOST_TURNS {
+        return Err(ScheduleCause::RoundsRange { rounds });
+    }
+    Ok(())
+}
 
 /// Returns the slot if there is a board in it.
 #[tactic(auto, unfolding(crate::specs::Schedules::has_slot))]
@@ -57,8 +79,7 @@ pub(crate) fn schedule_of(
 ) -> Result<Vec<(u16, u32)>, ConfigFault>
     ensures { Gives (λ schedule. schedule.items) result (schedule_of boards.now file.now) }
 {
-    if file.tries < 1 || file.tries > MOST_TURNS || file.rounds > MOST_TURNS {
-        return Err(ConfigFault::BadSchedule);
-    }
+    check_tries(file.tries)?;
+    check_rounds(file.rounds)?;
     lawful_schedule(alloc, boards, &file.schedule)
 }

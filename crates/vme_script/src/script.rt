@@ -6,13 +6,11 @@ ghost use Rattle.vme_script.specs.Scripts.{script_of, script_within, lines_from,
 
 use crate::context::ScriptContext;
 use crate::fault::{ScriptFault, ScriptRefusal};
+use crate::limits::MOST_LINES;
 use std::alloc::{AllocError, Global};
 use std::marker::Model;
 use vme_grammar::{Line, LineFault, parse_canonical, parse_words};
 use vme_lexer::Lines;
-
-/// The greatest number of lines of a script.
-const MOST_LINES: u16 = 1000;
 
 /// The length in bytes of a short line, its end included. It determines the initial capacity. Only
 /// a script with many takes has shorter lines, and may reallocate.

@@ -69,16 +69,6 @@ pub enum DocumentCause {
 }
 
 impl DocumentCause {
-    /// Returns the number of the refusal.
-    pub(crate) fn code(self) -> &'static str {
-        match self {
-            DocumentCause::NotToml { .. } => "C6",
-            DocumentCause::NoBoard => "C11",
-            DocumentCause::TooManyBoards { .. } => "C4",
-            _ => "C7",
-        }
-    }
-
     /// Returns the refusal.
     pub(crate) fn refusal(self) -> ConfigFault
         ensures { result ≡ document_refusal self }

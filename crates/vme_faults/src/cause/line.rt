@@ -2,8 +2,7 @@
 ghost use Rattle.std.specs.Prelude.{◌≡◌};
 ghost use Rattle.vme_faults.specs.Causes.{line_fault, script_refusal};
 
-use crate::cause::board::BoardName;
-use vme_script::{LineFault, ScriptRefusal};
+use vme_script::{BoardName, LineFault, ScriptRefusal};
 
 /// The form of a line: its command, and the function of a read-modify-write if it is known.
 #[derive(Clone, Copy, Debug, PartialEq, Eq)]
@@ -174,27 +173,5 @@ impl LineCause {
             Some(fault) => ScriptRefusal::BadLine { number, fault },
             None => ScriptRefusal::TooManyLines,
         }
-    }
-
-    /// Returns the number of the refusal.
-    pub(crate) fn code(self) -> &'static str {
-        match self.fault() {
-            Some(fault) => fault_code(fault),
-            None => "S8",
-        }
-    }
-}
-
-/// Returns the number of a refusal.
-pub(crate) fn fault_code(fault: LineFault) -> &'static str {
-    match fault {
-        LineFault::LineTooLong => "S1",
-        LineFault::UnknownWord => "S2",
-        LineFault::WordCount => "S3",
-        LineFault::BadCode => "S4",
-        LineFault::BadAddress => "S5",
-        LineFault::BadNumber => "S6",
-        LineFault::BadBytes => "S7",
-        LineFault::MailboxBytes => "S9",
     }
 }

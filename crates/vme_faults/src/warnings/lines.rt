@@ -1,6 +1,5 @@
 //! Warnings of the lines of a script.
 use crate::cause::LineWarning;
-use crate::script::line_bytes;
 use crate::warnings::list::Warnings;
 use crate::warnings::requests::{Backplane, Outcome, outcome_of, slot_number};
 use crate::warnings::shared::{Access, Uses, Watch, awaited_of, change_of};
@@ -9,11 +8,13 @@ use crate::words::span_of;
 use std::alloc::AllocError;
 use vme_config_toml::BoardTable;
 use vme_cycle::{Modify, Request};
+use vme_decode::AddressMap;
 use vme_grammar::{Line, parse_line};
 use vme_lanes::Datum;
 use vme_lexer::Lines;
 use vme_memory::BoardCmd;
 use vme_positions::Place;
+use vme_script::{BoardRange, line_bytes};
 
 /// The least number of turns of `vme step` that a lock, an unlock, a put, a take or a wait takes if
 /// it ends.
@@ -99,7 +100,7 @@ fn keep_uses(
     backplane: &Backplane<'_, '_>,
     uses: &mut Uses,
 ) -> Result<(), AllocError> {
-    let Some(range) = line_bytes(line, backplane.map, asked.board) else {
+    let Some(range) = range_of(line, backplane.map, asked.board) else {
         return Ok(());
     };
     if let Some(change) = change_of(line) {
@@ -123,6 +124,15 @@ fn keep_uses(
         })?;
     }
     Ok(())
+}
+
+/// The bytes that a line of the script of a board accesses. A lock and an unlock have their byte
+/// even if their requests are always refused.
+fn range_of(line: &Line, map: &AddressMap, board: usize) -> Option<BoardRange> {
+    match line {
+        Line::Lock { am, addr } | Line::Unlock { am, addr } => BoardRange::at(map, *am, *addr, 1),
+        _ => line_bytes(map, board, line),
+    }
 }
 
 /// The bit of the mailbox that a line names, or 0: bit i for number i.

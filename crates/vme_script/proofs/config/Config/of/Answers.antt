@@ -11,7 +11,7 @@ pub map_of-requires-clause-most : goal.map_of-requires-clause-most
 map_of-requires-clause-most c =
     let read : boards_after 0 c.deref.result.now ≡ Ok c.in_ok-boards.boards.items = c.in_ok-boards.ensures in
     let known = boards_known 0 c.deref.result.now c.in_ok-boards.boards.items read in
-    omega (arith, known.count, ap length c.deref-2.ensures.value, c.deref.ensures.len, c.len.ensures, c.if-len-from.false, c.from.ensures)
+    omega (arith, known.count, ap length c.deref-2.ensures.value, c.deref.ensures.len, c.len.ensures, c.if-len-gt-MOST_BOARDS.false)
 
 pub map_of-requires-clause-ranges : goal.map_of-requires-clause-ranges
 map_of-requires-clause-ranges c =

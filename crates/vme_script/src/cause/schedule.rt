@@ -1,8 +1,8 @@
 //! Faults of the arbiter and of the turns.
 ghost use Rattle.std.specs.Prelude.{◌≡◌};
-ghost use Rattle.vme_faults.specs.Causes.{schedule_refusal};
+ghost use Rattle.vme_script.specs.Causes.{schedule_refusal};
 
-use vme_script::ConfigFault;
+use crate::fault::ConfigFault;
 
 /// A fault of the arbiter or of the turns: C10 and C12.
 #[derive(Clone, Copy, Debug, PartialEq, Eq)]
@@ -21,21 +21,21 @@ pub enum ScheduleCause {
 }
 
 impl ScheduleCause {
-    /// Returns the number of the refusal.
-    pub(crate) fn code(self) -> &'static str {
-        match self {
-            ScheduleCause::NoArbiter => "C10",
-            _ => "C12",
-        }
-    }
-
     /// Returns the refusal.
-    pub(crate) fn refusal(self) -> ConfigFault
+    pub fn refusal(self) -> ConfigFault
         ensures { result ≡ schedule_refusal self }
     {
         match self {
             ScheduleCause::NoArbiter => ConfigFault::BadWord,
             _ => ConfigFault::BadSchedule,
         }
+    }
+}
+
+impl From<ScheduleCause> for ConfigFault {
+    ghost from_gives = { λ cause fault. fault ≡ schedule_refusal cause };
+
+    fn from(cause: ScheduleCause) -> ConfigFault {
+        cause.refusal()
     }
 }

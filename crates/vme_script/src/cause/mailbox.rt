@@ -1,7 +1,10 @@
 //! Faults of a mailbox.
+ghost use Rattle.std.specs.Prelude.{◌≡◌};
+ghost use Rattle.vme_script.specs.Causes.{mailbox_refusal};
+
 use crate::cause::board::BoardName;
+use crate::fault::ConfigFault;
 use vme_am::Space;
-use vme_positions::{Key, Place, TableName};
 
 /// A fault of a mailbox: C13.
 #[derive(Clone, Copy, Debug, PartialEq, Eq)]
@@ -63,15 +66,18 @@ pub enum MailboxCause {
 }
 
 impl MailboxCause {
-    /// Returns the place of the other mailbox's address, if the fault is one of two mailboxes.
-    pub(crate) fn other_place(self) -> Option<Place> {
-        match self {
-            MailboxCause::Shared { other, .. } => Some(Place::Value {
-                table: TableName::Mailbox,
-                index: other,
-                key: Key::Addr,
-            }),
-            _ => None,
-        }
+    /// Returns the refusal.
+    pub fn refusal(self) -> ConfigFault
+        ensures { result ≡ mailbox_refusal self }
+    {
+        ConfigFault::BadMailbox
+    }
+}
+
+impl From<MailboxCause> for ConfigFault {
+    ghost from_gives = { λ cause fault. fault ≡ mailbox_refusal cause };
+
+    fn from(cause: MailboxCause) -> ConfigFault {
+        cause.refusal()
     }
 }

@@ -1,10 +1,9 @@
 //! Faults of a board.
 ghost use Rattle.std.specs.Prelude.{◌≡◌};
-ghost use Rattle.vme_faults.specs.Causes.{board_refusal};
+ghost use Rattle.vme_script.specs.Causes.{board_refusal};
 
+use crate::fault::ConfigFault;
 use vme_am::Space;
-use vme_positions::{Key, Place, TableName};
-use vme_script::ConfigFault;
 
 /// How a text names a board.
 #[derive(Clone, Copy, Debug, PartialEq, Eq)]
@@ -84,24 +83,8 @@ pub enum BoardCause {
 }
 
 impl BoardCause {
-    /// Returns the number of the refusal.
-    pub(crate) fn code(self) -> &'static str {
-        match self {
-            BoardCause::SlotRange { .. }
-            | BoardCause::SlotTaken { .. }
-            | BoardCause::SlotOrder { .. } => "C8",
-            BoardCause::LevelRange { .. } => "C9",
-            BoardCause::NoSpace | BoardCause::NoWidth { .. } | BoardCause::UnalignedWidth { .. } =>
-                "C10",
-            BoardCause::SizeRange { .. } | BoardCause::SizeNotAligned { .. } => "C5",
-            BoardCause::BaseNotAligned { .. } => "C3",
-            BoardCause::OutsideSpace { .. } => "C2",
-            BoardCause::Overlap { .. } => "C1",
-        }
-    }
-
     /// Returns the refusal.
-    pub(crate) fn refusal(self) -> ConfigFault
+    pub fn refusal(self) -> ConfigFault
         ensures { result ≡ board_refusal self }
     {
         match self {
@@ -119,23 +102,12 @@ impl BoardCause {
             BoardCause::Overlap { .. } => ConfigFault::Overlap,
         }
     }
+}
 
-    /// Returns the place of the other board's slot or base, if the fault is one of two boards.
-    pub(crate) fn other_place(self) -> Option<Place> {
-        match self {
-            BoardCause::SlotTaken { other, .. } | BoardCause::SlotOrder { other, .. } => {
-                Some(Place::Value {
-                    table: TableName::Board,
-                    index: other,
-                    key: Key::Slot,
-                })
-            }
-            BoardCause::Overlap { other, .. } => Some(Place::Key {
-                table: TableName::Board,
-                index: other,
-                key: Key::Base,
-            }),
-            _ => None,
-        }
+impl From<BoardCause> for ConfigFault {
+    ghost from_gives = { λ cause fault. fault ≡ board_refusal cause };
+
+    fn from(cause: BoardCause) -> ConfigFault {
+        cause.refusal()
     }
 }
