@@ -78,7 +78,7 @@ fn unknown_word(line: &[u8]) -> LocatedCause
     ensures { line_fault result.cause ≡ Some LineFault.UnknownWord }
 {
     match form_of(line) {
-        Some(form) if is_of_scripts(form) => LocatedCause {
+        Some(form) if !is_request(form) => LocatedCause {
             cause: LineCause::ScriptCommand { form },
             span: span_of(line, 0),
         },
@@ -86,32 +86,21 @@ fn unknown_word(line: &[u8]) -> LocatedCause
     }
 }
 
-/// Whether only scripts have lines of a form.
-fn is_of_scripts(form: LineForm) -> bool {
-    match form {
+/// Whether `vme cycles` has lines of a form.
+fn is_request(form: LineForm) -> bool {
+    matches!(
+        form,
         LineForm::Read
-        | LineForm::Write
-        | LineForm::BlockRead
-        | LineForm::BlockWrite
-        | LineForm::BlockFill
-        | LineForm::Modify
-        | LineForm::ModifySet
-        | LineForm::ModifyExchange
-        | LineForm::ModifyAdd
-        | LineForm::ModifyCompare => false,
-        LineForm::LocalRead
-        | LineForm::LocalWrite
-        | LineForm::LocalModify
-        | LineForm::LocalModifySet
-        | LineForm::LocalModifyExchange
-        | LineForm::LocalModifyAdd
-        | LineForm::LocalModifyCompare
-        | LineForm::Await
-        | LineForm::Lock
-        | LineForm::Unlock
-        | LineForm::Put
-        | LineForm::Take => true,
-    }
+            | LineForm::Write
+            | LineForm::BlockRead
+            | LineForm::BlockWrite
+            | LineForm::BlockFill
+            | LineForm::Modify
+            | LineForm::ModifySet
+            | LineForm::ModifyExchange
+            | LineForm::ModifyAdd
+            | LineForm::ModifyCompare
+    )
 }
 
 /// The finding of a request: its refusal, or that its code or address does not select the board.
