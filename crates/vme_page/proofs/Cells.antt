@@ -1,6 +1,5 @@
 -- The values after the cells of an event are those after all of its edges.
-use Rattle.std.proofs.Common.{◌≡◌, ℕ, ◌+◌, ◌-◌, ◌≤◌, List, [], ◌∷◌, map, refl, ap, sym, ◌∙◌, arith}
-use Rattle.vme_trace.specs.declared.dump.change.Code.{Code}
+use Rattle.std.proofs.Common.{◌≡◌, ℕ, ◌+◌, ◌-◌, List, [], ◌∷◌, map, refl, ap, sym, ◌∙◌, arith}
 use Rattle.vme_trace.specs.declared.dump.change.Change.{Change}
 use Rattle.vme_trace.specs.declared.dump.change.Value.{Value}
 use Rattle.vme_trace.specs.Shown.{value_over}
@@ -9,9 +8,8 @@ use Rattle.vme_page.specs.declared.diagram.levels.Levels.{Levels}
 use Rattle.vme_page.specs.declared.diagram.window.Window.{Window}
 use Rattle.vme_page.specs.declared.diagram.window.Window.TheVariants.{Whole}
 use Rattle.vme_page.specs.Windows.{first_edge, end_edge}
-use Rattle.vme_page.specs.Points.{value_past}
 use Rattle.vme_page.specs.Levels.{levels_over, levels_past}
-use Rattle.vme_page.specs.Layouts.{LayoutView, bar_past, layout_past}
+use Rattle.vme_page.specs.Layouts.{layout_past}
 use Rattle.vme_page.specs.Diagrams.{DiagramView, IsOneCell, AreTwoCells, IsWholeEvent}
 use Rattle.vme_page.proofs.Edges.{over_more}
 

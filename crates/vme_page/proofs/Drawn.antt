@@ -1,15 +1,18 @@
 -- The diagrams after the events of a run have the values of the dump.
-use Rattle.std.proofs.Common.{◌≡◌, ℕ, zero, suc, ◌+◌, ◌-◌, Bool, true, false, List, [], ◌∷◌, ◌++◌, length, map, refl, ap, sym, ◌∙◌, arith, length-append}
+use Rattle.std.proofs.Common.{◌≡◌, ℕ, suc, ◌+◌, Bool, true, false, List, [], ◌∷◌, ◌++◌, length, map, refl, ap, sym, subst, ◌∙◌, arith, append_assoc, length-append}
 use Rattle.std.specs.Prelude.{if◌then◌else◌, Option}
 use Rattle.std.specs.List.{list_any, flat_map, range_with_len}
+use Rattle.std.specs.Option.{option_to_list}
 use Rattle.std.specs.Io.KnownBytes.{Appends}
 use Rattle.vme_io.proofs.lemmas.Appending.{Appends-none, Appends-more}
 use Rattle.vme_script.specs.Configurations.{Configuration}
 use Rattle.vme_line_task.specs.Scripts.{lines_at}
-use Rattle.vme_stepper.specs.Turns.{initial_state, state_after}
+use Rattle.vme_stepper.specs.Turns.{board_in_slot, initial_state, state_after}
+use Rattle.vme_stepper.specs.Steppers.{StepperView, stepper_of, stepper_turn_at}
 use Rattle.vme_stepper.specs.Schedules.{file_turns}
 use Rattle.vme_stepper.specs.Reports.{run_text}
 use Rattle.vme_trace.specs.declared.observation.Observation.{Observation}
+use Rattle.vme_trace.specs.Observations.{observed_at, observed_from, observations}
 use Rattle.vme_trace.specs.declared.dump.change.Code.{Code}
 use Rattle.vme_trace.specs.declared.dump.change.Change.{Change}
 use Rattle.vme_trace.specs.declared.dump.change.Value.{Value}
@@ -17,11 +20,11 @@ use Rattle.vme_trace.specs.declared.dump.change.Value.TheVariants.{High}
 use Rattle.vme_trace.specs.declared.dump.variable.Variable.TheVariants.{RequestLine, BusyLine}
 use Rattle.vme_trace.specs.Variables.{code_of}
 use Rattle.vme_trace.specs.Events.{event_changes}
-use Rattle.vme_trace.specs.Shown.{value_over, value_at, after_event, after_events, value_after_run}
+use Rattle.vme_trace.specs.Shown.{value_over, after_event, after_events, value_after_run}
 use Rattle.vme_page.specs.declared.diagram.layout.Bar.{Bar}
 use Rattle.vme_page.specs.declared.diagram.window.Window.TheVariants.{Whole}
-use Rattle.vme_page.specs.Levels.{levels_over, levels_past, levels_after_run}
-use Rattle.vme_page.specs.Layouts.{LayoutView, is_kind, bar_with, bar_of, bars_after_run, bar_past, layout_past}
+use Rattle.vme_page.specs.Levels.{levels_over, levels_after_run}
+use Rattle.vme_page.specs.Layouts.{LayoutView, is_kind, bar_with, bar_of, bars_after_run, bar_past}
 use Rattle.vme_page.specs.Diagrams.{IsWholeEvent}
 use Rattle.vme_page.specs.Drawings.{DrawingView, ShowsRun}
 use Rattle.vme_page.specs.Pages.{Grows, AppendsPage}
@@ -113,6 +116,45 @@ shows_more config events o old new shows one whole =
           ∙ ap (λ (n : ℕ). map (bar_past Whole (event_changes boards (n + 1) o)) old.diagram.layout.bars) shows.count
           ∙ ap (map (bar_past Whole (next_changes config events o))) shows.bars ∙ bars_next config events o;
     }
+
+-- the same, by the changes that were pushed
+pub shows_drawn :
+    (config : Configuration) (events : List Observation) (o : Observation) (given old new : DrawingView) (boards : ℕ) (cleared pushed seen : List Change)
+    → given ≡ old → boards ≡ length config.boards → cleared ≡ [] → pushed ≡ cleared ++ event_changes boards (old.count + 1) o → seen ≡ pushed
+    → new.count ≡ old.count + 1 → IsWholeEvent seen old.diagram new.diagram → ShowsRun config events given → ShowsRun config (events ++ o ∷ []) new
+shows_drawn config events o given old new boards cleared pushed seen same all none push slice one whole shows =
+    let changes : seen ≡ event_changes (length config.boards) (old.count + 1) o
+    = slice ∙ push ∙ ap (λ (before : List Change). before ++ event_changes boards (old.count + 1) o) none
+    ∙ ap (λ (n : ℕ). event_changes n (old.count + 1) o) all in
+    shows_more config events o old new (subst (λ (d : DrawingView). ShowsRun config events d) same shows) one
+    (subst (λ (cs : List Change). IsWholeEvent cs old.diagram new.diagram) changes whole)
+
+-- the end of a strip changes nothing that is shown
+pub kept : (config : Configuration) (events : List Observation) (old new : DrawingView) → new ≡ record old { diagram = record old.diagram { column = 0 } }
+    → ShowsRun config events old → ShowsRun config events new
+kept config events old new same shows = record {
+  count = ap (λ (d : DrawingView). d.count) same ∙ shows.count;
+  levels = ap (λ (d : DrawingView). d.diagram.levels) same ∙ shows.levels;
+  bars = ap (λ (d : DrawingView). d.diagram.layout.bars) same ∙ shows.bars;
+}
+
+-- at the start all events of the run are left
+pub all_left : (config : Configuration) (stepper : StepperView) (turns : List ℕ) → stepper ≡ stepper_of config (initial_state config)
+    → turns ≡ file_turns config → [] ++ observed_from config stepper turns ≡ observations config (file_turns config)
+unfolding observations
+all_left config stepper turns is all = rw (is, all) refl
+
+-- the event of a turn, if it has one, and those that are left after it are those that were left before it
+pub next_left :
+    (config : Configuration) (events : List Observation) (stepper : StepperView) (slot : ℕ) (turns rest : List ℕ) (after : StepperView)
+    → turns ≡ slot ∷ rest → after ≡ stepper_turn_at config stepper (board_in_slot config slot)
+    → (events ++ option_to_list (observed_at config stepper (board_in_slot config slot))) ++ observed_from config after rest
+    ≡ events ++ observed_from config stepper turns
+next_left config events stepper slot turns rest after next is =
+    let found : List Observation = option_to_list (observed_at config stepper (board_in_slot config slot)) in
+    append_assoc events found (observed_from config after rest)
+    ∙ ap (λ (s : StepperView). events ++ (found ++ observed_from config s rest)) is
+    ∙ ap (λ (all : List ℕ). events ++ observed_from config stepper all) (sym next)
 
 -- the state before the first turn
 pub starts_state : (config : Configuration) → state_after config [] ≡ initial_state config

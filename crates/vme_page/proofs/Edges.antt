@@ -102,7 +102,9 @@ pub over_more : (code : Code) (changes : List Change) (edge a b : ℕ) (v : Valu
     → value_over code changes edge (a + b) v ≡ value_over code changes (edge + a) b (value_over code changes edge a v)
 unfolding value_over
 over_more code changes edge zero b v =
-    ap (λ (n : ℕ). value_over code changes edge n v) (omega arith) ∙ ap (λ (e : ℕ). value_over code changes e b v) (omega arith)
+    let count : 0 + b ≡ b = omega arith in
+    let place : edge ≡ edge + 0 = omega arith in
+    ap (λ (n : ℕ). value_over code changes edge n v) count ∙ ap (λ (e : ℕ). value_over code changes e b v) place
 over_more code changes edge (suc a) b v =
     let count : suc a + b ≡ suc (a + b) = omega arith in
     let place : suc edge + a ≡ edge + suc a = omega arith in

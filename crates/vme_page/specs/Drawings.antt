@@ -1,7 +1,9 @@
 -- The diagrams of a page: before each event they have the values of the dump.
-use Rattle.std.specs.Prelude.{ℕ, ◌≡◌, nat_lt, Bool, ◌||◌, List, length}
+use Rattle.std.specs.Prelude.{ℕ, ◌≡◌, nat_lt, Bool, ◌||◌, List, ◌++◌, length}
 use Rattle.vme_script.specs.Configurations.{Configuration}
+use Rattle.vme_stepper.specs.Schedules.{file_turns}
 use Rattle.vme_trace.specs.declared.observation.Observation.{Observation}
+use Rattle.vme_trace.specs.Observations.{observations}
 use Rattle.vme_page.specs.declared.range.EventRange.{EventRange}
 use Rattle.vme_page.specs.Levels.{levels_after_run}
 use Rattle.vme_page.specs.Layouts.{bars_after_run}
@@ -21,3 +23,10 @@ pub record ShowsRun (config : Configuration) (events : List Observation) (d : Dr
   pub count : d.count ≡ length events
   pub levels : d.diagram.levels ≡ levels_after_run (length config.boards) events
   pub bars : d.diagram.layout.bars ≡ bars_after_run config events
+
+-- the diagrams show the first events of the run of a configuration by the turns of its file
+pub record ShowsFirst (config : Configuration) (d : DrawingView) : Type 0 where
+  pub events : List Observation
+  pub later : List Observation
+  pub whole : events ++ later ≡ observations config (file_turns config)
+  pub shows : ShowsRun config events d

@@ -1,5 +1,5 @@
 -- Which edges of an event a cell shows, and where.
-use Rattle.std.specs.Prelude.{ℕ, ◌-◌, nat_le, nat_lt, Bool, ◌&&◌, List, [], ◌∷◌, Option, Some, None, slice_get}
+use Rattle.std.specs.Prelude.{ℕ, ◌-◌, nat_le, nat_lt, Bool, ◌&&◌, [], ◌∷◌, Option, Some, None, slice_get}
 use Rattle.vme_trace.specs.declared.dump.edge.TheConstants.{BEGIN, EDGES, FIRST, RELEASE, SECOND}
 use Rattle.vme_page.specs.declared.diagram.window.Window.{Window}
 use Rattle.vme_page.specs.declared.diagram.window.Window.TheVariants.{Whole, First, Second, Arbitration, Unanswered, Release}

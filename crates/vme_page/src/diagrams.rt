@@ -8,7 +8,7 @@ ghost use Rattle.vme_stepper.specs.Steppers.{stepper_of, stepper_turn_at, IsStep
 ghost use Rattle.vme_trace.specs.Observations.{observed_at};
 ghost use Rattle.vme_trace.specs.Turns.{turns_left, IsTurnsOf};
 ghost use Rattle.vme_trace.specs.declared.observation.Observation.{Observation};
-ghost use Rattle.vme_page.specs.Drawings.{ShowsRun};
+ghost use Rattle.vme_page.specs.Drawings.{ShowsRun, ShowsFirst};
 ghost use Rattle.vme_page.specs.Pages.{Grows};
 
 use crate::drawing::Drawing;
@@ -57,6 +57,7 @@ fn draw_turns<'a, W: Sink>(
     requires opening { stepper.old ≡ stepper_of config.now (initial_state config.now) }
     requires stepper { IsStepperOf config.now stepper.old }
     requires unmarked { W.is_marked writer.old ≡ false }
+    ensures shows { OnOk result (ShowsFirst config.now drawing.new) }
     ensures grows { OnOk result (Grows (W.contents writer.old) (W.contents writer.new)) }
     ensures write { W.is_marked writer.new ≡ is_write_end result }
     ensures faults { IfErr result IsReportFault }

@@ -79,7 +79,11 @@ impl Drawing {
         &mut self,
         text: &mut Vec<u8>,
         range: EventRange,
-    ) -> Result<(), AllocError> {
+    ) -> Result<(), AllocError>
+        ensures { self.new ≡ record self.old {
+          diagram = record self.old.diagram { column = 0 };
+        } }
+    {
         self.diagram.print_end(text)?;
         print_note(text, range, self.count)?;
         print_report_begin(text)

@@ -1,2 +1,6 @@
 pub mod Shown
 pub mod Events
+pub mod Steps
+pub mod Counts
+pub mod Values
+pub mod Transfers

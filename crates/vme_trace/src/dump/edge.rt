@@ -14,27 +14,27 @@ pub const RELEASE: u8 = 12;
 pub const END: u8 = 19;
 
 /// The master drives the data of a write: so many edges after the begin of a handshake.
-pub(crate) const MASTER_DRIVES: u8 = 0;
+pub const MASTER_DRIVES: u8 = 0;
 /// The data strobes fall.
-pub(crate) const STROBES_FALL: u8 = 1;
+pub const STROBES_FALL: u8 = 1;
 /// The board drives the data of a read.
-pub(crate) const BOARD_DRIVES: u8 = 2;
+pub const BOARD_DRIVES: u8 = 2;
 /// The answer falls: DTACK* or BERR*.
-pub(crate) const ANSWER_FALLS: u8 = 3;
+pub const ANSWER_FALLS: u8 = 3;
 /// The strobes rise.
-pub(crate) const STROBES_RISE: u8 = 6;
+pub const STROBES_RISE: u8 = 6;
 /// The data are released.
-pub(crate) const DATA_RELEASED: u8 = 7;
+pub const DATA_RELEASED: u8 = 7;
 /// The answer rises.
-pub(crate) const ANSWER_RISES: u8 = 8;
+pub const ANSWER_RISES: u8 = 8;
 /// The address is released.
-pub(crate) const ADDRESS_RELEASED: u8 = 9;
+pub const ADDRESS_RELEASED: u8 = 9;
 
 /// A grant line falls: so many edges after the release of the bus, or after the begin of an event.
-pub(crate) const GRANT: u8 = 1;
+pub const GRANT: u8 = 1;
 /// BBSY* falls: so many edges after a grant line has fallen.
-pub(crate) const BUSY_FALLS: u8 = 1;
+pub const BUSY_FALLS: u8 = 1;
 /// The bus request line rises.
-pub(crate) const REQUEST_RISES: u8 = 2;
+pub const REQUEST_RISES: u8 = 2;
 /// The grant line rises.
-pub(crate) const GRANT_ENDS: u8 = 3;
+pub const GRANT_ENDS: u8 = 3;

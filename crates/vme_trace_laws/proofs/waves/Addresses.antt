@@ -6,10 +6,10 @@ use Rattle.vme_trace.specs.declared.dump.handshake.Handshake.{Handshake}
 use Rattle.vme_trace.specs.Changes.{level_of}
 use Rattle.vme_trace.specs.Variables.{bus_code}
 use Rattle.vme_trace.specs.Handshakes.{edge_of}
-use Rattle.vme_trace.specs.Bus.{is_wide, drive_edge, upper_number, address_strobe_changes, address_changes, address_level_changes, level_changes, data_strobe_changes, data_changes, handshake_changes}
+use Rattle.vme_trace.specs.Bus.{is_wide, drive_edge, upper_number, address_strobe_changes, address_changes, level_changes, data_strobe_changes, data_changes, handshake_changes}
 use Rattle.vme_trace.specs.Shown.{is_code, value_after}
 use Rattle.vme_trace_laws.proofs.waves.Afters.{other, last_other, own, last_own, silent, after_append}
-use Rattle.vme_trace_laws.proofs.waves.Groups.{address_strobe_quiet, address_quiet, address_level_quiet, level_quiet, data_strobe_quiet, data_quiet, answer_quiet}
+use Rattle.vme_trace_laws.proofs.waves.Groups.{level_line, address_strobe_quiet, address_quiet, address_level_quiet, level_quiet, data_strobe_quiet, data_quiet, answer_quiet}
 use Rattle.vme_trace_laws.proofs.waves.Pulses.{pulse}
 
 -- the address modifier in a handshake, by its own changes
@@ -62,7 +62,7 @@ address_after k t v narrow kept =
 
 -- a line that shows a level with the address
 address_level_own : (x k : ℕ) (t : Handshake) (level bit : Bool) (v : Value) → is_code (bus_code x) (bus_code x) ≡ true → is_wide t ≡ false → t.clears ≡ false
-    → value_after (bus_code x) k (address_level_changes t x level bit) v ≡ pulse (level_of level) Free t.opens t.ends 0 (edge_of t 9) k v
+    → value_after (bus_code x) k (level_line t x level bit) v ≡ pulse (level_of level) Free t.opens t.ends 0 (edge_of t 9) k v
 address_level_own x k t level bit v same narrow kept =
     own (bus_code x) k t.opens 0 (level_of level) _ v same
     ∙ (own (bus_code x) k t.clears 10 Free _ _ same
@@ -76,8 +76,8 @@ first_address_after_own : (k : ℕ) (t : Handshake) (v : Value) → is_wide t �
     → value_after (bus_code 76) k (level_changes t) v ≡ pulse (level_of t.lines.strobes.a01) Free t.opens t.ends 0 (edge_of t 9) k v
 unfolding level_changes
 first_address_after_own k t v narrow kept =
-    after_append (bus_code 76) k (address_level_changes t 76 t.lines.strobes.a01 (upper_number t.lines.lanes / 2 % 2 == 1)) _ v
-    ∙ (silent (bus_code 76) k (address_level_changes t 77 t.lines.strobes.lword (upper_number t.lines.lanes % 2 == 1)) _ _ (address_level_quiet (bus_code 76) 77 k t _ _ _ refl)
+    after_append (bus_code 76) k (level_line t 76 t.lines.strobes.a01 (upper_number t.lines.lanes / 2 % 2 == 1)) _ v
+    ∙ (silent (bus_code 76) k (level_line t 77 t.lines.strobes.lword (upper_number t.lines.lanes % 2 == 1)) _ _ (address_level_quiet (bus_code 76) 77 k t _ _ _ refl)
     ∙ (other (bus_code 76) 78 k t.opens 0 (level_of t.lines.write) _ _ refl
     ∙ (other (bus_code 76) 78 k t.falls 10 Low _ _ refl
     ∙ (last_other (bus_code 76) 78 k t.ends (edge_of t 9) Free _ refl))))
@@ -101,8 +101,8 @@ long_word_after_own : (k : ℕ) (t : Handshake) (v : Value) → is_wide t ≡ fa
     → value_after (bus_code 77) k (level_changes t) v ≡ pulse (level_of t.lines.strobes.lword) Free t.opens t.ends 0 (edge_of t 9) k v
 unfolding level_changes
 long_word_after_own k t v narrow kept =
-    silent (bus_code 77) k (address_level_changes t 76 t.lines.strobes.a01 (upper_number t.lines.lanes / 2 % 2 == 1)) _ v (address_level_quiet (bus_code 77) 76 k t _ _ v refl)
-    ∙ (after_append (bus_code 77) k (address_level_changes t 77 t.lines.strobes.lword (upper_number t.lines.lanes % 2 == 1)) _ v
+    silent (bus_code 77) k (level_line t 76 t.lines.strobes.a01 (upper_number t.lines.lanes / 2 % 2 == 1)) _ v (address_level_quiet (bus_code 77) 76 k t _ _ v refl)
+    ∙ (after_append (bus_code 77) k (level_line t 77 t.lines.strobes.lword (upper_number t.lines.lanes % 2 == 1)) _ v
     ∙ (other (bus_code 77) 78 k t.opens 0 (level_of t.lines.write) _ _ refl
     ∙ (other (bus_code 77) 78 k t.falls 10 Low _ _ refl
     ∙ (last_other (bus_code 77) 78 k t.ends (edge_of t 9) Free _ refl))))
@@ -125,8 +125,8 @@ long_word_after k t v narrow kept =
 write_after_own : (k : ℕ) (t : Handshake) (v : Value) → t.falls ≡ false → value_after (bus_code 78) k (level_changes t) v ≡ pulse (level_of t.lines.write) Free t.opens t.ends 0 (edge_of t 9) k v
 unfolding level_changes
 write_after_own k t v still =
-    silent (bus_code 78) k (address_level_changes t 76 t.lines.strobes.a01 (upper_number t.lines.lanes / 2 % 2 == 1)) _ v (address_level_quiet (bus_code 78) 76 k t _ _ v refl)
-    ∙ (silent (bus_code 78) k (address_level_changes t 77 t.lines.strobes.lword (upper_number t.lines.lanes % 2 == 1)) _ v (address_level_quiet (bus_code 78) 77 k t _ _ v refl)
+    silent (bus_code 78) k (level_line t 76 t.lines.strobes.a01 (upper_number t.lines.lanes / 2 % 2 == 1)) _ v (address_level_quiet (bus_code 78) 76 k t _ _ v refl)
+    ∙ (silent (bus_code 78) k (level_line t 77 t.lines.strobes.lword (upper_number t.lines.lanes % 2 == 1)) _ v (address_level_quiet (bus_code 78) 77 k t _ _ v refl)
     ∙ (own (bus_code 78) k t.opens 0 (level_of t.lines.write) _ v refl
     ∙ (own (bus_code 78) k t.falls 10 Low _ _ refl
     ∙ (last_own (bus_code 78) k t.ends (edge_of t 9) Free _ refl))))

@@ -1,5 +1,5 @@
 -- The number of the event, the holder of the bus and BBSY* in an event.
-use Rattle.std.proofs.Common.{◌≡◌, ℕ, ◌+◌, ◌-◌, ◌<◌, ◌≤◌, ◌++◌, Bool, true, false, refl, ap, ◌∙◌, arith}
+use Rattle.std.proofs.Common.{◌≡◌, ℕ, ◌+◌, ◌-◌, ◌<◌, ◌≤◌, ◌++◌, true, false, refl, ◌∙◌, arith}
 use Rattle.std.specs.Prelude.{flat_map, is_some}
 use Rattle.std.specs.List.{range_with_len}
 use Rattle.std.proofs.lemmas.Bool.{ne_eqb}
@@ -19,7 +19,7 @@ use Rattle.vme_trace_laws.proofs.waves.Afters.{other, last_other, own, last_own,
 use Rattle.vme_trace_laws.proofs.waves.Pulses.{pulse}
 use Rattle.vme_trace_laws.proofs.waves.Quiet.{IsQuiet, if_quiet, append_quiet, IsNoLine, each_quiet}
 use Rattle.vme_trace_laws.proofs.waves.Values.{pulse_at, at_pulse}
-use Rattle.vme_trace_laws.proofs.waves.Events.{name_quiet, holder_quiet, request_line_quiet, some_quiet}
+use Rattle.vme_trace_laws.proofs.waves.Events.{name_quiet, holder_quiet, some_quiet}
 use Rattle.vme_trace_laws.proofs.waves.Slots.{bus_quiet}
 
 -- the letter of a bus request line is none of the variables before them

@@ -1,13 +1,14 @@
 -- Which lines the changes of a handshake move.
-use Rattle.std.proofs.Common.{◌≡◌, ℕ, ◌-◌, ◌/◌, ◌%◌, ◌==◌, Bool, false, not, refl, ◌∙◌}
+use Rattle.std.proofs.Common.{◌≡◌, ℕ, List, ◌++◌, ◌-◌, ◌/◌, ◌%◌, ◌==◌, Bool, false, not, refl, ◌∙◌}
 use Rattle.vme_trace.specs.declared.dump.change.Code.{Code}
+use Rattle.vme_trace.specs.declared.dump.change.Change.{Change}
 use Rattle.vme_trace.specs.declared.dump.change.Value.{Value}
 use Rattle.vme_trace.specs.declared.dump.change.Value.TheVariants.{Low, High, Free, Released, Number, Lanes}
 use Rattle.vme_trace.specs.declared.dump.handshake.Handshake.{Handshake}
-use Rattle.vme_trace.specs.Changes.{level_of}
+use Rattle.vme_trace.specs.Changes.{level_of, change_if}
 use Rattle.vme_trace.specs.Variables.{bus_code}
 use Rattle.vme_trace.specs.Handshakes.{edge_of}
-use Rattle.vme_trace.specs.Bus.{is_wide, drive_edge, upper_number, lower_lanes, upper_lanes, address_strobe_changes, address_changes, address_level_changes, level_changes, data_strobe_changes, data_changes, answer_changes, handshake_changes}
+use Rattle.vme_trace.specs.Bus.{is_wide, drive_edge, upper_number, lower_lanes, upper_lanes, address_strobe_changes, address_changes, level_changes, data_strobe_changes, data_changes, answer_changes, handshake_changes}
 use Rattle.vme_trace.specs.Shown.{is_code, value_after}
 use Rattle.vme_trace_laws.proofs.waves.Afters.{other, last_other, own, last_own, silent, after_append}
 use Rattle.vme_trace_laws.proofs.waves.Pulses.{pulse}
@@ -33,9 +34,18 @@ address_quiet line k t v first =
     ∙ (other line 75 k (is_wide t) (edge_of t 7) Released _ v first
     ∙ (last_other line 75 k t.ends (edge_of t 9) Released v first))))
 
+-- what a line that shows a level with the address does in a handshake, by its letter
+abbrev pub level_line : Handshake → ℕ → Bool → Bool → List Change
+level_line t letter level bit =
+    change_if t.opens 0 (bus_code letter) (level_of level)
+    ++ (change_if t.clears 10 (bus_code letter) Free
+    ++ (change_if (is_wide t) (drive_edge t) (bus_code letter) (level_of bit)
+    ++ (change_if (is_wide t) (edge_of t 7) (bus_code letter) Free
+    ++ change_if t.ends (edge_of t 9) (bus_code letter) Free)))
+
 -- a line that shows a level with the address moves no other line
 pub address_level_quiet : (line : Code) (x k : ℕ) (t : Handshake) (level bit : Bool) (v : Value) → is_code line (bus_code x) ≡ false
-    → value_after line k (address_level_changes t x level bit) v ≡ v
+    → value_after line k (level_line t x level bit) v ≡ v
 address_level_quiet line x k t level bit v apart =
     other line x k t.opens 0 (level_of level) _ v apart
     ∙ (other line x k t.clears 10 Free _ v apart
@@ -48,8 +58,8 @@ pub level_quiet : (line : Code) (k : ℕ) (t : Handshake) (v : Value) → is_cod
     → value_after line k (level_changes t) v ≡ v
 unfolding level_changes
 level_quiet line k t v first second third =
-    silent line k (address_level_changes t 76 t.lines.strobes.a01 (upper_number t.lines.lanes / 2 % 2 == 1)) _ v (address_level_quiet line 76 k t _ _ v first)
-    ∙ (silent line k (address_level_changes t 77 t.lines.strobes.lword (upper_number t.lines.lanes % 2 == 1)) _ v (address_level_quiet line 77 k t _ _ v second)
+    silent line k (level_line t 76 t.lines.strobes.a01 (upper_number t.lines.lanes / 2 % 2 == 1)) _ v (address_level_quiet line 76 k t _ _ v first)
+    ∙ (silent line k (level_line t 77 t.lines.strobes.lword (upper_number t.lines.lanes % 2 == 1)) _ v (address_level_quiet line 77 k t _ _ v second)
     ∙ (other line 78 k t.opens 0 (level_of t.lines.write) _ v third
     ∙ (other line 78 k t.falls 10 Low _ v third
     ∙ (last_other line 78 k t.ends (edge_of t 9) Free v third))))

@@ -1,12 +1,12 @@
 -- One more turn is made, and its event is shown.
-use Rattle.std.proofs.Common.{◌≡◌, ℕ, ◌<◌, ◌≤◌, List, [], ◌∷◌, ◌++◌, length, refl, ap, sym, ◌∙◌, arith, append_assoc, length-append}
+use Rattle.std.proofs.Common.{◌≡◌, ℕ, List, [], ◌∷◌, ◌++◌, length, refl, ap, sym, ◌∙◌, arith, append_assoc, length-append}
 use Rattle.std.specs.Option.{option_to_list}
 use Rattle.vme_stepper.specs.Turns.{board_in_slot}
 use Rattle.vme_stepper.specs.Steppers.{stepper_of}
 use Rattle.vme_stepper.proofs.lemmas.Runs.{turn_more, few_steps, file_few}
-use Rattle.vme_trace.specs.Observations.{observed_at}
+use Rattle.vme_trace.specs.Observations.{observed_at, observed_from}
 use Rattle.vme_trace.specs.Turns.{turns_left}
-use Rattle.vme_page.proofs.Drawn.{starts_state, grows_none, grows_more}
+use Rattle.vme_page.proofs.Drawn.{kept, starts_state, all_left, next_left, grows_none, grows_more}
 use Rattle.vme_page.proofs.diagrams.draw_turns.Goals as goal
 
 pub loop-slot-init : goal.loop-slot-init
@@ -18,6 +18,7 @@ loop-slot-init g c = record {
   sound = c.requires.stepper;
   few = omega (arith, c.requires.drawing.count);
   events = [];
+  whole = all_left c.args.config.now c.args.stepper.now (turns_left c.args.config.now c.new-turns.result) c.requires.opening c.new-turns.ensures.turns;
   shows = c.requires.drawing;
   grown = grows_none _;
   mark = c.requires.unmarked;
@@ -49,7 +50,22 @@ loop-slot-preserved g c =
       sound = c.in_ok-draw_turn.ensures.sound;
       few = omega (arith, i.few, c.in_ok-draw_turn.ensures.count, length-append i.before (slot ∷ []));
       events = i.events ++ option_to_list (observed_at config c.loop-slot.stepper (board_in_slot config slot));
+      whole = next_left config i.events c.loop-slot.stepper slot (turns_left config c.loop-slot.turns) rest _ next c.in_ok-draw_turn.ensures.turn ∙ i.whole;
       shows = c.in_ok-draw_turn.ensures.shows i.events i.shows;
       grown = grows_more _ _ _ i.grown c.in_ok-draw_turn.ensures.grows;
       mark = c.in_ok-draw_turn.ensures.write;
     }
+
+pub returns-clause-shows : goal.returns-clause-shows
+returns-clause-shows g c =
+    let config = c.args.config.now in
+    let i = c.loop-slot.invariant in
+    record {
+      events = i.events;
+      later = observed_from config c.loop-slot.stepper (turns_left config c.loop-slot.turns);
+      whole = i.whole;
+      shows = kept config i.events c.loop-slot.drawing c.print_ending.new.self c.print_ending.ensures i.shows;
+    }
+
+pub returns-clause-grows : goal.returns-clause-grows
+returns-clause-grows g c = c.loop-slot.invariant.grown

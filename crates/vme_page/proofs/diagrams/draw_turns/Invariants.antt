@@ -3,6 +3,7 @@ use Rattle.vme_stepper.specs.Turns.{state_after}
 use Rattle.vme_stepper.specs.Schedules.{file_turns}
 use Rattle.vme_stepper.specs.Steppers.{stepper_of, IsStepperOf}
 use Rattle.vme_trace.specs.declared.observation.Observation.{Observation}
+use Rattle.vme_trace.specs.Observations.{observed_from, observations}
 use Rattle.vme_trace.specs.Turns.{turns_left, IsTurnsOf}
 use Rattle.vme_page.specs.Drawings.{ShowsRun}
 use Rattle.vme_page.specs.Pages.{Grows}
@@ -18,6 +19,7 @@ invariant-loop-slot g l = record {
   sound : IsStepperOf l.config l.stepper;
   few : l.drawing.count ≤ length before;
   events : List Observation;
+  whole : events ++ observed_from l.config l.stepper (turns_left l.config l.turns) ≡ observations l.config (file_turns l.config);
   shows : ShowsRun l.config events l.drawing;
   grown : Grows (g.W.Sink.contents l.fn.writer) (g.W.Sink.contents l.writer);
   mark : g.W.Sink.is_marked l.writer ≡ false;

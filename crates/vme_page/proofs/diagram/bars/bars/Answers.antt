@@ -1,4 +1,4 @@
-use Rattle.std.proofs.Common.{ℕ, [], ◌<◌, ◌+◌, ◌-◌, ◌++◌, length, sym, ap, ◌∙◌, arith, append_assoc}
+use Rattle.std.proofs.Common.{[], ◌<◌, ◌+◌, ◌-◌, ◌++◌, length, sym, ap, ◌∙◌, arith, append_assoc}
 use Rattle.std.specs.List.{flat_map, range_with_len}
 use Rattle.vme_page.specs.Layouts.{bar_of}
 use Rattle.vme_page.proofs.Ranges.{range_next}

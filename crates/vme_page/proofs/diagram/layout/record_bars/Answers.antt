@@ -1,4 +1,4 @@
-use Rattle.std.proofs.Common.{◌≡◌, ℕ, List, ◌+◌, ◌++◌, set, get_or, map, take, drop, ap, ◌∙◌}
+use Rattle.std.proofs.Common.{List, set, get_or, ap, ◌∙◌}
 use Rattle.vme_trace.specs.declared.dump.change.Value.TheVariants.{Low}
 use Rattle.vme_page.specs.declared.diagram.layout.Bar.{Bar}
 use Rattle.vme_page.specs.Layouts.{no_code, bar_past}

@@ -1,4 +1,4 @@
-use Rattle.std.proofs.Common.{refl, ◌∙◌}
+use Rattle.std.proofs.Common.{refl}
 use Rattle.vme_page.specs.Levels.{levels_after_run}
 use Rattle.vme_page.proofs.drawing.Drawing.new.Goals as goal
 
