@@ -94,36 +94,20 @@ impl Gate for Hold {
     }
 }
 
-/// Runs both processors with a gate, and checks the report's text.
-fn check_report<R: Threads + Wait + Abort + Sync>(
-    rt: &R,
+/// Holds one processor at one point, and checks the report's text.
+fn check_hold<T: Threads + Wait + Abort + Sync>(
+    rt: &T,
     alloc: Global,
     config: &Config,
     gate: &Hold,
 ) {
-    let Ok(mut sink) = RoomSink::new(alloc, usize::MAX, REPORT.len()) else {
-        panic!(rt; "no memory")
-    };
+    let mut sink = RoomSink::new(alloc, usize::MAX, REPORT.len()).expect(rt, "no memory");
     let report = run_threads(rt, alloc, config, gate).expect(rt, "no report");
     assert_eq!(rt; report.lines.len(), report.boards.len());
     let end: Result<Status, RunFault> = report_text(alloc, &report, &mut sink);
     assert_eq!(rt; end, Ok(Status::Clean));
     assert_eq!(rt; sink.bytes(), REPORT.as_bytes());
-}
-
-/// Holds one processor at one point, and checks the report.
-fn check_hold<R: Threads + Wait + Abort + Sync>(
-    rt: &R,
-    alloc: Global,
-    config: &Config,
-    slot: u16,
-    line: u16,
-) {
-    for after in [false, true] {
-        let gate = Hold::at(slot, line, after);
-        check_report(rt, alloc, config, &gate);
-        assert!(rt; !gate.missed.load(Ordering::SeqCst));
-    }
+    assert!(rt; !gate.missed.load(Ordering::SeqCst));
 }
 
 #[test]
@@ -132,7 +116,8 @@ fn each_hold_comes_to_the_same(rt: HostRuntime) {
     let config = config.expect(&rt, "refused");
     for slot in [1, 2] {
         for line in [1, LAST_LINE] {
-            check_hold(&rt, rt.alloc(), &config, slot, line);
+            check_hold(&rt, rt.alloc(), &config, &Hold::at(slot, line, false));
+            check_hold(&rt, rt.alloc(), &config, &Hold::at(slot, line, true));
         }
     }
 }

@@ -18,11 +18,11 @@ mod holds;
 #[cfg(test)]
 mod lines;
 #[cfg(test)]
+mod long_rows;
+#[cfg(test)]
 mod memory;
 #[cfg(test)]
-mod runs;
-#[cfg(test)]
-mod step_arbiters;
+mod rows;
 #[cfg(test)]
 mod step_rows;
 #[cfg(test)]

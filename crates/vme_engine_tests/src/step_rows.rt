@@ -1,8 +1,7 @@
 //! Configuration files, with what `vme step` reports of their runs.
-use crate::support::{Engine, check_rows};
 use vme_engines::Status;
 
-static ROWS: [(&str, &str, Status); 9] = [
+pub static ROWS: [(&str, &str, Status); 9] = [
     // A block that reads past the end of its board: the board's own bus error is a step of it.
     (
         "rounds = 4
@@ -204,8 +203,3 @@ mem 1 00000000 ff000000000000000000000000000000
         Status::Marked,
     ),
 ];
-
-#[test]
-fn reports_what_the_turns_make(rt: HostRuntime) {
-    check_rows(&rt, rt.alloc(), Engine::Step, &ROWS);
-}

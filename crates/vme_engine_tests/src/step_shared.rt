@@ -1,8 +1,7 @@
 //! Files whose processors share a lock or a mailbox, with what `vme step` reports of their runs.
-use crate::support::{Engine, check_rows};
 use vme_engines::Status;
 
-static ROWS: [(&str, &str, Status); 5] = [
+pub static ROWS: [(&str, &str, Status); 5] = [
     // One processor takes the lock; the other finds it busy, and may try once; then the first frees
     // it.
     (
@@ -171,8 +170,3 @@ board 1 steps 1 made 1
         Status::Marked,
     ),
 ];
-
-#[test]
-fn processors_share_locks_and_mailboxes(rt: HostRuntime) {
-    check_rows(&rt, rt.alloc(), Engine::Step, &ROWS);
-}

@@ -1,9 +1,7 @@
-//! Blocks of eight bytes a datum, by `vme step`.
-use crate::support::{Engine, check_ends, check_rows};
-use std::alloc::{AllocError, Global};
+//! Blocks of eight bytes a datum, and a board at the end of its space, by `vme step`.
 use vme_engines::Status;
 
-static ROWS: [(&str, &str, Status); 3] = [
+pub static ROWS: [(&str, &str, Status); 4] = [
     // A datum of which the board has only four bytes: the bus error is a step of the board.
     (
         "rounds = 3
@@ -69,37 +67,15 @@ mem 1 00000000 aaaaaaaabbbbbbbb0000000000000000
 ",
         Status::Clean,
     ),
-];
-
-#[test]
-fn wide_data_are_moved_whole(rt: HostRuntime) {
-    check_rows(&rt, rt.alloc(), Engine::Step, &ROWS);
-}
-
-/// The longest block, written and read back.
-static LONGEST: &str = "rounds = 1000
-[[board]]
+    // A board whose last byte is the last of its space.
+    (
+        "[[board]]
 slot = 1
-base = 0
-size = 2048
-script = '''
-bf 0c 00000000 8 256 0102030405060708
-br 0c 00000000 8 256
-'''
-";
-
-/// Returns the replies to both lines.
-fn replies(alloc: Global) -> Result<String, AllocError> {
-    let mut text = String::new(alloc);
-    text.push_str("1:1 done\n1:2 read ")?;
-    for _datum in 0..256 {
-        text.push_str("0102030405060708")?;
-    }
-    Ok(text)
-}
-
-#[test]
-fn the_longest_block_is_read_back(rt: HostRuntime) {
-    let first = replies(rt.alloc()).expect(&rt, "no memory");
-    check_ends(&rt, rt.alloc(), Engine::Step, LONGEST, (first.as_str(), ""));
-}
+base = 0xfffffffc
+size = 4
+",
+        "board 1 steps 0 made 0
+",
+        Status::Clean,
+    ),
+];

@@ -1,5 +1,5 @@
-//! What the tests of the engines share: a run of an engine over bytes in memory, and tables of
-//! inputs with the texts that the runs write.
+//! What the tests of the engines share: a run of an engine over bytes in memory, texts by their
+//! parts, and an input of each engine with its text.
 ghost use Rattle.std.specs.Prelude.{◌≡◌, false};
 
 use std::alloc::{AllocError, Global};
@@ -63,34 +63,18 @@ pub fn check<T: Threads + Wait + Abort + Sync>(
     assert_eq!(rt; sink.bytes(), text.as_bytes(), "{input}");
 }
 
-/// Inputs of an engine, each with the text that a run writes and its status.
-pub type Rows<'a> = &'a [(&'static str, &'static str, Status)];
+/// A text by its parts, each with the number of times that it is repeated.
+pub type Parts<'a> = &'a [(&'static str, usize)];
 
-/// Runs an engine over each input of a table, and checks the texts and the statuses.
-pub fn check_rows<T: Threads + Wait + Abort + Sync>(
-    rt: &T,
-    alloc: Global,
-    engine: Engine,
-    rows: Rows<'_>,
-) {
-    for (input, text, status) in rows {
-        check(rt, alloc, engine, input, text, *status);
+/// Returns a text of these parts.
+pub fn text_of(alloc: Global, parts: Parts<'_>) -> Result<String, AllocError> {
+    let mut text = String::new(alloc);
+    for (part, times) in parts {
+        for _ in 0..*times {
+            text.push_str(part)?;
+        }
     }
-}
-
-/// Runs an engine over an input, and checks that the status is `Clean` and that the text begins
-/// with `first` and ends with `last`.
-pub fn check_ends<T: Threads + Wait + Abort + Sync>(
-    rt: &T,
-    alloc: Global,
-    engine: Engine,
-    input: &str,
-    (first, last): (&str, &str),
-) {
-    let (end, sink) = run_on(rt, alloc, engine, input.as_bytes()).expect(rt, "no memory");
-    assert_eq!(rt; end, Ok(Status::Clean));
-    assert!(rt; sink.bytes().starts_with(first.as_bytes()));
-    assert!(rt; sink.bytes().ends_with(last.as_bytes()));
+    Ok(text)
 }
 
 /// An input of an engine, and its output, which is the same in every run.

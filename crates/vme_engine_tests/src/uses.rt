@@ -190,7 +190,8 @@ fn the_report_of_one_board(rt: HostRuntime) -> Result<(), Fail> {
     Ok(())
 }
 
-/// Two latches. One actor sets the first latch, the other copies the first into the second.
+/// Two latches. One actor sets the first latch, the other copies the first into the second. All
+/// states have one digest, so `is_same` alone distinguishes them.
 #[derive(Drop)]
 pub struct Latches;
 
@@ -229,8 +230,8 @@ impl System for Latches {
         a.0 == b.0 && a.1 == b.1
     }
 
-    fn digest(&self, latches: &(bool, bool)) -> u64 {
-        u64::from(latches.0) * 2 + u64::from(latches.1)
+    fn digest(&self, _latches: &(bool, bool)) -> u64 {
+        7
     }
 }
 

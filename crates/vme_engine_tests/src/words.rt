@@ -1,8 +1,39 @@
 //! Command lines: those of the three forms, and others.
 use std::alloc::{AllocError, Global};
-use std::process::Abort;
-use std::test::Fail;
-use vme_engines::{Form, WordsFault, read_words};
+use vme_engines::{WordsFault, read_words};
+
+/// Command lines, each with the `Debug` text of its form, or of the fault if it has none.
+static LINES: &str = "\
+vme cycles|Ok(Cycles)
+vme cycles --|Ok(Cycles)
+./vme cycles|Ok(Cycles)
+vme step a.toml|Ok(Step(\"a.toml\"))
+vme step -- a.toml|Ok(Step(\"a.toml\"))
+vme step a.toml --|Ok(Step(\"a.toml\"))
+vme step -- --help|Ok(Step(\"--help\"))
+vme step -- --|Ok(Step(\"--\"))
+vme step -|Ok(Step(\"-\"))
+vme step |Ok(Step(\"\"))
+vme step step|Ok(Step(\"step\"))
+vme run a.toml|Ok(Run(\"a.toml\"))
+vme|Err(Usage)
+vme x|Err(Usage)
+vme step|Err(Usage)
+vme step --|Err(Usage)
+vme step -x|Err(Usage)
+vme step --help|Err(Usage)
+vme step a.toml b.toml|Err(Usage)
+vme step -- a.toml b.toml|Err(Usage)
+vme step a.toml -- b.toml|Err(Usage)
+vme run|Err(Usage)
+vme run a.toml b.toml|Err(Usage)
+vme cycles a|Err(Usage)
+vme cycles -- a|Err(Usage)
+vme -- cycles|Err(Usage)
+vme --help|Err(Usage)
+vme help|Err(Usage)
+vme Cycles|Err(Usage)
+";
 
 /// Returns the words of a line, which single spaces separate.
 fn words_of(alloc: Global, line: &str) -> Result<Vec<String>, AllocError> {
@@ -13,91 +44,14 @@ fn words_of(alloc: Global, line: &str) -> Result<Vec<String>, AllocError> {
     Ok(words)
 }
 
-/// Checks the form that the words of a line have.
-fn expect(
-    rt: &impl Abort,
-    alloc: Global,
-    line: &str,
-    read: Result<Form, WordsFault>,
-) -> Result<(), AllocError> {
-    let words = words_of(alloc, line)?;
-    assert_eq!(rt; read_words(alloc, words.as_slice()), read, "{line}");
-    Ok(())
-}
-
 #[test]
-fn reads_the_three_forms(rt: HostRuntime) -> Result<(), Fail> {
-    let alloc = rt.alloc();
-    for line in ["vme cycles", "vme cycles --", "./vme cycles"] {
-        expect(&rt, alloc, line, Ok(Form::Cycles))?;
+fn reads_the_three_forms_alone(rt: HostRuntime) {
+    for row in LINES.lines() {
+        let (line, wanted) = row.split_once('|').expect(&rt, "no text");
+        let words = words_of(rt.alloc(), line).expect(&rt, "no memory");
+        let read = read_words(rt.alloc(), words.as_slice());
+        let text = format!(in rt.alloc(); "{read:?}").expect(&rt, "no memory");
+        assert_eq!(rt; text.as_str(), wanted, "{line}");
     }
-    for (line, path) in [
-        ("vme step a.toml", "a.toml"),
-        ("vme step -- a.toml", "a.toml"),
-        ("vme step a.toml --", "a.toml"),
-        ("vme step -- --help", "--help"),
-        ("vme step -- --", "--"),
-        ("vme step -", "-"),
-        ("vme step ", ""),
-        ("vme step step", "step"),
-    ] {
-        let path = String::from_str(alloc, path)?;
-        expect(&rt, alloc, line, Ok(Form::Step(path)))?;
-    }
-    let path = String::from_str(alloc, "a.toml")?;
-    expect(&rt, alloc, "vme run a.toml", Ok(Form::Run(path)))?;
-    Ok(())
-}
-
-/// Command lines that have none of the forms.
-static OTHERS: [&str; 17] = [
-    "vme",
-    "vme x",
-    "vme step",
-    "vme step --",
-    "vme step -x",
-    "vme step --help",
-    "vme step a.toml b.toml",
-    "vme step -- a.toml b.toml",
-    "vme step a.toml -- b.toml",
-    "vme run",
-    "vme run a.toml b.toml",
-    "vme cycles a",
-    "vme cycles -- a",
-    "vme -- cycles",
-    "vme --help",
-    "vme help",
-    "vme Cycles",
-];
-
-#[test]
-fn reports_usage_for_others(rt: HostRuntime) -> Result<(), Fail> {
-    for line in &OTHERS {
-        expect(&rt, rt.alloc(), line, Err(WordsFault::Usage))?;
-    }
-    let none = Vec::new(rt.alloc());
-    assert_eq!(&rt;
-        read_words(rt.alloc(), none.as_slice()),
-        Err(WordsFault::Usage)
-    );
-    Ok(())
-}
-
-/// Faults, each with its text and the status that the program ends with.
-static FAULTS: [(WordsFault, &str, u8); 2] = [
-    (
-        WordsFault::Usage,
-        "usage: vme cycles | vme step FILE | vme run FILE",
-        2,
-    ),
-    (WordsFault::Memory, "memory", 3),
-];
-
-#[test]
-fn reports_faults(rt: HostRuntime) -> Result<(), Fail> {
-    for (fault, text, status) in &FAULTS {
-        assert_eq!(rt; fault.to_string(rt.alloc())?.as_str(), *text);
-        assert_eq!(rt; fault.exit_status(), *status);
-    }
-    Ok(())
+    assert_eq!(rt; read_words(rt.alloc(), &[]), Err(WordsFault::Usage));
 }
