@@ -1,5 +1,5 @@
 //! Tests of ports and of arrays of ports, on one thread and on several; and what they share: they
-//! open a port, and remove and add passes.
+//! open a port, and make calls by its passes.
 ghost use Rattle.std.specs.Prelude.{◌≡◌, All};
 ghost use Rattle.vme_port.specs.Ports.{IsPassOf, passes_of};
 
@@ -30,8 +30,28 @@ pub(crate) fn open<O: Object + Drop>(
     }
 }
 
+/// Makes one try by the pass at an index, and returns the reply.
+pub(crate) fn reply_to<O: Object>(
+    rt: &impl Abort,
+    port: &Port<O>,
+    passes: &mut Vec<Pass<O>>,
+    who: usize,
+    cmd: &O::Cmd,
+) -> O::Reply
+    requires { All (IsPassOf port.now) passes.old.items }
+    ensures { All (IsPassOf port.now) passes.new.items }
+{
+    if who >= passes.len() {
+        panic!(rt; "no pass")
+    }
+    match port.try_call(&mut passes[who], cmd) {
+        Ok(reply) => reply,
+        Err(_) => panic!(rt; "refused"),
+    }
+}
+
 /// Removes and returns the last pass.
-pub(crate) fn next_pass<O: Object>(
+pub(crate) fn last_pass<O: Object>(
     rt: &impl Abort,
     port: &Port<O>,
     passes: &mut Vec<Pass<O>>,
@@ -43,21 +63,5 @@ pub(crate) fn next_pass<O: Object>(
     match passes.pop() {
         Some(pass) => pass,
         None => panic!(rt; "no pass"),
-    }
-}
-
-/// Appends a pass to `passes`, and panics if that fails.
-pub(crate) fn add_pass<O: Object>(
-    rt: &impl Abort,
-    port: &Port<O>,
-    passes: &mut Vec<Pass<O>>,
-    pass: Pass<O>,
-)
-    requires passes { All (IsPassOf port.now) passes.old.items }
-    requires pass { IsPassOf port.now pass }
-    ensures { All (IsPassOf port.now) passes.new.items }
-{
-    if passes.push(pass).is_err() {
-        panic!(rt; "no memory")
     }
 }

@@ -61,6 +61,22 @@ impl Gate for Meeting {
     fn after(&self, _slot: u16, _line: u16) {}
 }
 
+/// Appends to a file a board with these keys, whose script has some lines as many times.
+pub(crate) fn push_board(
+    file: &mut String,
+    keys: &str,
+    lines: &str,
+    times: usize,
+) -> Result<(), AllocError> {
+    file.push_str("[[board]]\n")?;
+    file.push_str(keys)?;
+    file.push_str("script = \"\"\"\n")?;
+    for _ in 0..times {
+        file.push_str(lines)?;
+    }
+    file.push_str("\"\"\"\n")
+}
+
 /// Returns the configuration of a file.
 pub(crate) fn configured(rt: &impl Abort, alloc: Global, file: &str) -> Config {
     match Config::read(alloc, file.as_bytes()) {
@@ -79,6 +95,16 @@ pub(crate) fn report_of<R: Threads + Wait + Abort + Sync, G: Gate + Sync>(
     match run_threads(rt, alloc, config, gate) {
         Ok(report) => report,
         Err(_) => panic!(rt; "no report"),
+    }
+}
+
+/// Checks the bytes of the first board from an offset on.
+pub(crate) fn expect_bytes(rt: &impl Abort, report: &Report, from: u32, bytes: &[u8]) {
+    let Some(board) = report.boards.first() else {
+        panic!(rt; "no board")
+    };
+    for (offset, byte) in (from..).zip(bytes.iter()) {
+        assert_eq!(rt; board.memory.byte(offset), Some(*byte));
     }
 }
 

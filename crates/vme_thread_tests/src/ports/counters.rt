@@ -1,136 +1,65 @@
 //! Ports of counters, called from one thread and from several.
-ghost use Rattle.std.specs.Prelude.{◌≡◌, All, IfSome};
+ghost use Rattle.std.specs.Prelude.{◌≡◌};
 ghost use Rattle.vme_port.specs.Ports.{IsPassOf};
 
-use crate::ports::{next_pass, open};
+use crate::ports::{last_pass, open, reply_to};
 use std::alloc::Global;
 use std::process::Abort;
-use std::sync::Wait;
+use std::sync::{Mutex, Wait};
 use std::test::Fail;
-use std::thread::{Threads, join};
+use std::thread::map_vec;
 use vme_object::{Counter, CounterCmd};
 use vme_port::{Pass, Port, PortFault, Unsettled};
+
+/// The number of threads.
+const THREADS: usize = 4;
 
 /// The number of calls that each thread makes.
 const CALLS: usize = 1_000;
 
-/// The result of a thread: its pass and the replies to its calls, in order.
-#[derive(Drop)]
-struct Worked {
-    pass: Pass<Counter>,
-    replies: Vec<u64>,
-}
-
-/// Calls the port `CALLS` times, and returns the pass with the replies.
-fn work<R: Wait>(
+/// Bumps the counter `CALLS` times, appends the replies to those of all threads, and returns the
+/// pass.
+fn work<R: Wait + Abort>(
     rt: &R,
     alloc: Global,
     port: &Port<Counter>,
     mut pass: Pass<Counter>,
-) -> Option<Worked>
+    replies: &Mutex<Vec<u64>>,
+) -> Pass<Counter>
     requires { IsPassOf port.now pass }
-    ensures { IfSome result (λ w. IsPassOf port.entry.now w.pass) }
+    ensures { IsPassOf port.entry.now result }
 {
-    let Ok(mut replies) = Vec::with_capacity(alloc, CALLS) else {
-        return None;
-    };
+    let mut own = Vec::new(alloc);
     for _ in 0..CALLS {
         let Ok(reply) = port.call(rt, &mut pass, &CounterCmd::Bump) else {
-            return None;
+            panic!(rt; "spent")
         };
-        if replies.push(reply).is_err() {
-            return None;
-        }
+        assert!(rt; own.push(reply).is_ok());
     }
-    Some(Worked { pass, replies })
-}
-
-/// Runs `work` on two threads.
-fn work_both<R: Threads + Wait + Sync>(
-    rt: &R,
-    alloc: Global,
-    port: &Port<Counter>,
-    first: Pass<Counter>,
-    second: Pass<Counter>,
-) -> Option<(Worked, Worked)>
-    requires first { IsPassOf port.now first }
-    requires second { IsPassOf port.now second }
-    ensures first { IfSome result (λ w. IsPassOf port.entry.now w.0.pass) }
-    ensures second { IfSome result (λ w. IsPassOf port.entry.now w.1.pass) }
-{
-    let (one, two) = join(
-        rt,
-        move || -> Option<Worked>
-            requires { IsPassOf port.now first }
-            ensures { IfSome result (λ w. IsPassOf port.entry.now w.pass) }
-        { work(rt, alloc, port, first) },
-        move || -> Option<Worked>
-            requires { IsPassOf port.now second }
-            ensures { IfSome result (λ w. IsPassOf port.entry.now w.pass) }
-        { work(rt, alloc, port, second) },
-    );
-    Some((one?, two?))
-}
-
-/// Runs `work` on four threads, and returns the results in the order of the passes' numbers.
-fn work_four<R: Threads + Wait + Abort + Sync>(
-    rt: &R,
-    alloc: Global,
-    port: &Port<Counter>,
-    mut passes: Vec<Pass<Counter>>,
-) -> Option<((Worked, Worked), (Worked, Worked))>
-    requires { All (IsPassOf port.now) passes.items }
-    ensures left { IfSome result (λ w. IsPassOf port.entry.now w.0.0.pass × IsPassOf port.entry.now w.0.1.pass) }
-    ensures right { IfSome result (λ w. IsPassOf port.entry.now w.1.0.pass × IsPassOf port.entry.now w.1.1.pass) }
-{
-    let last = next_pass(rt, port, &mut passes);
-    let third = next_pass(rt, port, &mut passes);
-    let second = next_pass(rt, port, &mut passes);
-    let first = next_pass(rt, port, &mut passes);
-    let (left, right) = join(
-        rt,
-        move || -> Option<(Worked, Worked)>
-            requires { IsPassOf port.now first × IsPassOf port.now second }
-            ensures { IfSome result (λ w. IsPassOf port.entry.now w.0.pass × IsPassOf port.entry.now w.1.pass) }
-        { work_both(rt, alloc, port, first, second) },
-        move || -> Option<(Worked, Worked)>
-            requires { IsPassOf port.now third × IsPassOf port.now last }
-            ensures { IfSome result (λ w. IsPassOf port.entry.now w.0.pass × IsPassOf port.entry.now w.1.pass) }
-        { work_both(rt, alloc, port, third, last) },
-    );
-    Some((left?, right?))
-}
-
-/// Appends the replies of one thread to `replies`, and returns the thread's pass.
-fn take_in(rt: &impl Abort, worked: Worked, replies: &mut Vec<u64>) -> Pass<Counter>
-    ensures { result ≡ worked.pass }
-{
-    let Worked {
-        pass,
-        replies: more,
-    } = worked;
     assert_eq!(rt; pass.made(), CALLS as u64);
-    assert!(rt; replies.extend_from_slice(&more).is_ok());
+    assert!(rt; replies.lock(rt).extend_from_slice(&own).is_ok());
     pass
 }
 
 #[test]
 fn four_threads_share_a_counter(rt: HostRuntime) -> Result<(), Fail> {
-    let (port, passes) = open(&rt, rt.alloc(), Counter { number: 0 }, 4);
-    let Some(((a, b), (c, d))) = work_four(&rt, rt.alloc(), &port, passes) else {
-        panic!(&rt; "no memory")
-    };
-    let mut replies = Vec::new(rt.alloc());
-    let first = take_in(&rt, a, &mut replies);
-    let second = take_in(&rt, b, &mut replies);
-    let third = take_in(&rt, c, &mut replies);
-    let last = take_in(&rt, d, &mut replies);
+    let alloc = rt.alloc();
+    let (port, passes) = open(&rt, alloc, Counter { number: 0 }, THREADS);
+    let replies = Mutex::new(Vec::new(alloc));
+    let passes = map_vec(
+        &rt,
+        passes,
+        &|pass: Pass<Counter>| -> Pass<Counter>
+            requires { IsPassOf port pass }
+            ensures { IsPassOf port result }
+        { work(&rt, alloc, &port, pass, &replies) },
+    )?;
+    let mut replies = replies.into_inner();
     replies.sort()?;
-    assert_eq!(&rt; replies.len(), 4 * CALLS);
+    assert_eq!(&rt; replies.len(), THREADS * CALLS);
     for (i, reply) in replies.iter().enumerate() {
         assert_eq!(&rt; *reply, i as u64);
     }
-    let passes = Vec::from_array(rt.alloc(), [first, second, third, last])?;
     let Ok((counter, count)) = port.settle(passes) else {
         panic!(&rt; "not settled")
     };
@@ -142,13 +71,11 @@ fn four_threads_share_a_counter(rt: HostRuntime) -> Result<(), Fail> {
 #[test]
 fn a_sole_pass_is_never_busy(rt: HostRuntime) {
     let (port, mut passes) = open(&rt, rt.alloc(), Counter { number: 0 }, 1);
-    let mut pass = next_pass(&rt, &port, &mut passes);
     for i in 0..100u64 {
-        let Ok(reply) = port.try_call(&mut pass, &CounterCmd::Bump) else {
-            panic!(&rt; "refused")
-        };
+        let reply = reply_to(&rt, &port, &mut passes, 0, &CounterCmd::Bump);
         assert_eq!(&rt; reply, i);
     }
+    let pass = last_pass(&rt, &port, &mut passes);
     assert_eq!(&rt; pass.made(), 100);
     assert_eq!(&rt; pass.who(), 0);
 }
@@ -185,28 +112,18 @@ fn a_port_opens_or_lacks_memory(rt: HostRuntime) {
 }
 
 #[test]
-fn a_port_without_one_pass_is_not_settled(rt: HostRuntime) -> Result<(), Fail> {
+fn a_port_without_one_pass_is_not_settled(rt: HostRuntime) {
     let (port, mut passes) = open(&rt, rt.alloc(), Counter { number: 0 }, 3);
-    let mut lost = next_pass(&rt, &port, &mut passes);
-    assert!(&rt; port.try_call(&mut lost, &CounterCmd::Bump).is_ok());
-    assert!(&rt; port.try_call(&mut lost, &CounterCmd::Bump).is_ok());
-    drop(lost);
+    assert_eq!(&rt; reply_to(&rt, &port, &mut passes, 2, &CounterCmd::Bump), 0);
+    assert_eq!(&rt; reply_to(&rt, &port, &mut passes, 2, &CounterCmd::Bump), 1);
+    drop(last_pass(&rt, &port, &mut passes));
     let Err(Unsettled { port, passes }) = port.settle(passes) else {
         panic!(&rt; "settled without a pass")
     };
     let Err(Unsettled { port, mut passes }) = port.settle(passes) else {
         panic!(&rt; "settled without a pass")
     };
-    let mut second = next_pass(&rt, &port, &mut passes);
-    let mut first = next_pass(&rt, &port, &mut passes);
-    let Ok(shown) = port.try_call(&mut first, &CounterCmd::Show) else {
-        panic!(&rt; "refused")
-    };
-    assert_eq!(&rt; shown, 2);
-    let Ok(bumped) = port.try_call(&mut second, &CounterCmd::Bump) else {
-        panic!(&rt; "refused")
-    };
-    assert_eq!(&rt; bumped, 2);
-    assert_eq!(&rt; second.who(), 1);
-    Ok(())
+    assert_eq!(&rt; reply_to(&rt, &port, &mut passes, 0, &CounterCmd::Show), 2);
+    assert_eq!(&rt; reply_to(&rt, &port, &mut passes, 1, &CounterCmd::Bump), 2);
+    assert_eq!(&rt; last_pass(&rt, &port, &mut passes).who(), 1);
 }

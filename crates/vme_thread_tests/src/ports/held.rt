@@ -1,14 +1,15 @@
 //! Ports that are busy, because a command on their object waits for a release.
+ghost use Rattle.std.specs.Prelude.{◌≡◌};
 ghost use Rattle.vme_port.specs.Ports.{IsPassOf};
 
 use crate::flags::{comes, seen};
-use crate::ports::{next_pass, open};
+use crate::ports::{open, reply_to};
 use std::alloc::{AllocError, Global};
 use std::process::Abort;
 use std::sync::atomic::{AtomicBool, Ordering};
 use std::sync::{Arc, Wait};
 use std::test::Fail;
-use std::thread::{Threads, join};
+use std::thread::map_vec;
 use vme_object::{CounterCmd, Held};
 use vme_port::{Pass, Port, TryFault};
 
@@ -19,129 +20,86 @@ fn signs(alloc: Global) -> Result<(Arc<AtomicBool>, Arc<AtomicBool>), AllocError
     Ok((entered, release))
 }
 
-/// Makes a try while the command of another thread runs, and one after it.
-fn try_meanwhile<R: Threads + Wait + Abort + Sync>(
+/// Pass 0 makes a call, and pass 1 a try while that command runs, which it then releases.
+fn try_meanwhile<R: Wait + Abort>(
     rt: &R,
     port: &Port<Held>,
     entered: &AtomicBool,
     release: &AtomicBool,
-    mut first: Pass<Held>,
-    mut second: Pass<Held>,
-)
-    requires first { IsPassOf port.now first }
-    requires second { IsPassOf port.now second }
+    mut pass: Pass<Held>,
+) -> Pass<Held>
+    requires { IsPassOf port.now pass }
+    ensures { IsPassOf port.entry.now result }
 {
-    let (reply, mut second) = join(
-        rt,
-        move || -> Option<u64>
-            requires { IsPassOf port.now first }
-        { port.call(rt, &mut first, &CounterCmd::Bump).ok() },
-        move || -> Pass<Held>
-            requires { IsPassOf port.now second }
-            ensures { IsPassOf port.entry.now result }
-        {
-            assert!(rt; seen(entered), "the call began");
-            let Err(TryFault::Busy) = port.try_call(&mut second, &CounterCmd::Bump) else {
-                panic!(rt; "not busy")
-            };
-            assert_eq!(rt; second.made(), 0);
-            release.store(true, Ordering::SeqCst);
-            second
-        },
-    );
-    assert_eq!(rt; reply, Some(0));
-    let after = port.try_call(&mut second, &CounterCmd::Bump);
-    assert!(rt; matches!(&after, Ok(1)));
+    if pass.who() == 0 {
+        assert_eq!(rt; port.call(rt, &mut pass, &CounterCmd::Bump).ok(), Some(0));
+        return pass;
+    }
+    assert!(rt; seen(entered), "the call began");
+    let Err(TryFault::Busy) = port.try_call(&mut pass, &CounterCmd::Bump) else {
+        panic!(rt; "not busy")
+    };
+    assert_eq!(rt; pass.made(), 0);
+    release.store(true, Ordering::SeqCst);
+    pass
 }
 
 #[test]
 fn a_port_is_busy_while_a_call_is_inside(rt: HostRuntime) -> Result<(), Fail> {
     let (entered, release) = signs(rt.alloc())?;
     let held = Held::new(entered.clone()?, release.clone()?);
-    let (port, mut passes) = open(&rt, rt.alloc(), held, 2);
-    let second = next_pass(&rt, &port, &mut passes);
-    let first = next_pass(&rt, &port, &mut passes);
-    try_meanwhile(&rt, &port, &entered, &release, first, second);
+    let (port, passes) = open(&rt, rt.alloc(), held, 2);
+    let mut passes = map_vec(
+        &rt,
+        passes,
+        &|pass: Pass<Held>| -> Pass<Held>
+            requires { IsPassOf port pass }
+            ensures { IsPassOf port result }
+        { try_meanwhile(&rt, &port, &entered, &release, pass) },
+    )?;
+    assert_eq!(&rt; reply_to(&rt, &port, &mut passes, 1, &CounterCmd::Bump), 1);
     Ok(())
 }
 
-/// Makes one call, and returns its reply and the pass.
-fn call_held<R: Wait>(rt: &R, port: &Port<Held>, mut pass: Pass<Held>) -> (Option<u64>, Pass<Held>)
+/// Pass 0 makes a call, pass 1 another one while that command runs, and pass 2 makes none: it
+/// releases the command once the second call is seen to wait.
+fn call_meanwhile<R: Wait + Abort>(
+    rt: &R,
+    port: &Port<Held>,
+    entered: &AtomicBool,
+    release: &AtomicBool,
+    mut pass: Pass<Held>,
+) -> Pass<Held>
     requires { IsPassOf port.now pass }
-    ensures { IsPassOf port.entry.now result.1 }
+    ensures { IsPassOf port.entry.now result }
 {
+    let who = pass.who();
+    if who == 2 {
+        assert!(rt; comes(|| port.is_wanted()), "the second call waits");
+        release.store(true, Ordering::SeqCst);
+        return pass;
+    }
+    if who == 1 {
+        assert!(rt; seen(entered), "the first call began");
+    }
     let reply = port.call(rt, &mut pass, &CounterCmd::Bump).ok();
-    (reply, pass)
-}
-
-/// Starts a call while another command runs, and releases that command once this call is seen to
-/// wait.
-fn call_parks<R: Threads + Wait + Abort + Sync>(
-    rt: &R,
-    port: &Port<Held>,
-    entered: &AtomicBool,
-    release: &AtomicBool,
-    pass: Pass<Held>,
-) -> (Option<u64>, Pass<Held>)
-    requires { IsPassOf port.now pass }
-    ensures { IsPassOf port.entry.now result.1 }
-{
-    let (called, ()) = join(
-        rt,
-        move || -> (Option<u64>, Pass<Held>)
-            requires { IsPassOf port.now pass }
-            ensures { IsPassOf port.entry.now result.1 }
-        {
-            assert!(rt; seen(entered), "the first call began");
-            call_held(rt, port, pass)
-        },
-        move || {
-            assert!(rt; comes(|| port.is_wanted()), "the second call waits");
-            release.store(true, Ordering::SeqCst);
-        },
-    );
-    called
-}
-
-/// Makes two calls at the same time, of which the second parks and is woken.
-fn call_twice<R: Threads + Wait + Abort + Sync>(
-    rt: &R,
-    port: &Port<Held>,
-    entered: &AtomicBool,
-    release: &AtomicBool,
-    first: Pass<Held>,
-    second: Pass<Held>,
-) -> (Pass<Held>, Pass<Held>)
-    requires first { IsPassOf port.now first }
-    requires second { IsPassOf port.now second }
-    ensures first { IsPassOf port.entry.now result.0 }
-    ensures second { IsPassOf port.entry.now result.1 }
-{
-    let ((one, first), (two, second)) = join(
-        rt,
-        move || -> (Option<u64>, Pass<Held>)
-            requires { IsPassOf port.now first }
-            ensures { IsPassOf port.entry.now result.1 }
-        { call_held(rt, port, first) },
-        move || -> (Option<u64>, Pass<Held>)
-            requires { IsPassOf port.now second }
-            ensures { IsPassOf port.entry.now result.1 }
-        { call_parks(rt, port, entered, release, second) },
-    );
-    assert_eq!(rt; one, Some(0));
-    assert_eq!(rt; two, Some(1));
-    (first, second)
+    assert_eq!(rt; reply, Some(who as u64));
+    pass
 }
 
 #[test]
 fn a_call_that_parks_is_woken(rt: HostRuntime) -> Result<(), Fail> {
     let (entered, release) = signs(rt.alloc())?;
     let held = Held::new(entered.clone()?, release.clone()?);
-    let (port, mut passes) = open(&rt, rt.alloc(), held, 2);
-    let second = next_pass(&rt, &port, &mut passes);
-    let first = next_pass(&rt, &port, &mut passes);
-    let (first, second) = call_twice(&rt, &port, &entered, &release, first, second);
-    let passes = Vec::from_array(rt.alloc(), [first, second])?;
+    let (port, passes) = open(&rt, rt.alloc(), held, 3);
+    let passes = map_vec(
+        &rt,
+        passes,
+        &|pass: Pass<Held>| -> Pass<Held>
+            requires { IsPassOf port pass }
+            ensures { IsPassOf port result }
+        { call_meanwhile(&rt, &port, &entered, &release, pass) },
+    )?;
     let Ok((held, count)) = port.settle(passes) else {
         panic!(&rt; "not settled")
     };

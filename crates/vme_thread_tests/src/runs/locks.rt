@@ -1,5 +1,5 @@
 //! Processors that take one lock in alternation. While one has the lock, no other writes.
-use crate::runs::{Open, configured, report_of};
+use crate::runs::{Open, configured, push_board, report_of};
 use std::alloc::{AllocError, Global};
 use std::process::Abort;
 use std::test::Fail;
@@ -11,10 +11,10 @@ static HEAD: &str = "arbiter = \"rotating\"\ntries = 1000000\n";
 
 /// Four processors, each with its mark.
 static BOARDS: [(&str, u8); 4] = [
-    ("slot = 1\nbase = 0x0000\nlevel = 0\n", 1),
-    ("slot = 2\nbase = 0x1000\nlevel = 1\n", 2),
-    ("slot = 3\nbase = 0x2000\nlevel = 2\n", 3),
-    ("slot = 4\nbase = 0x3000\nlevel = 3\n", 4),
+    ("slot = 1\nbase = 0x0000\nlevel = 0\nsize = 16\n", 1),
+    ("slot = 2\nbase = 0x1000\nlevel = 1\nsize = 16\n", 2),
+    ("slot = 3\nbase = 0x2000\nlevel = 2\nsize = 16\n", 3),
+    ("slot = 4\nbase = 0x3000\nlevel = 3\nsize = 16\n", 4),
 ];
 
 /// The number of times that each processor takes the lock.
@@ -26,16 +26,10 @@ fn file(alloc: Global) -> Result<String, AllocError> {
     let mut text = String::new(alloc);
     text.push_str(HEAD)?;
     for (board, mark) in &BOARDS {
-        text.push_str("[[board]]\n")?;
-        text.push_str(board)?;
-        text.push_str("size = 16\nscript = '''\n")?;
-        let write = format!(in alloc; "w 09 00000008 {mark:02x}\n")?;
-        for _ in 0..TIMES {
-            text.push_str("lock 09 00000000\n")?;
-            text.push_str(write.as_str())?;
-            text.push_str("r 09 00000008 1\nunlock 09 00000000\n")?;
-        }
-        text.push_str("'''\n")?;
+        let marked = format!(in alloc;
+            "lock 09 00000000\nw 09 00000008 {mark:02x}\nr 09 00000008 1\nunlock 09 00000000\n"
+        )?;
+        push_board(&mut text, board, marked.as_str(), TIMES)?;
     }
     Ok(text)
 }

@@ -1,5 +1,5 @@
 //! Two processors put words into one mailbox, and a third takes them.
-use crate::runs::{Open, configured, report_of};
+use crate::runs::{Open, configured, expect_bytes, push_board, report_of};
 use std::alloc::{AllocError, Global};
 use std::process::Abort;
 use std::sync::Wait;
@@ -25,11 +25,11 @@ size = 64
 
 /// The processors that put, each with its first word.
 static PUTTERS: [(&str, u32); 2] = [
-    ("slot = 2\nbase = 0x1000\nlevel = 2\n", 0x200),
-    ("slot = 3\nbase = 0x2000\nlevel = 1\n", 0x300),
+    ("slot = 2\nbase = 0x1000\nlevel = 2\nsize = 16\n", 0x200),
+    ("slot = 3\nbase = 0x2000\nlevel = 1\nsize = 16\n", 0x300),
 ];
 
-static TAKER: &str = "slot = 4\nbase = 0x3000\nlevel = 0\n";
+static TAKER: &str = "slot = 4\nbase = 0x3000\nlevel = 0\nsize = 16\n";
 
 /// The number of words that each putting processor puts in the long run.
 const MANY: u32 = 100;
@@ -59,21 +59,13 @@ fn file(alloc: Global, words: u32) -> Result<String, AllocError> {
     let mut text = String::new(alloc);
     text.push_str(HEAD)?;
     for (board, first) in &PUTTERS {
-        text.push_str("[[board]]\n")?;
-        text.push_str(board)?;
-        text.push_str("size = 16\nscript = '''\n")?;
+        let mut puts = String::new(alloc);
         for word in *first..first.wrapping_add(words) {
-            text.push_str(format!(in alloc; "put 1 {word:08x}\n")?.as_str())?;
+            puts.push_str(format!(in alloc; "put 1 {word:08x}\n")?.as_str())?;
         }
-        text.push_str("'''\n")?;
+        push_board(&mut text, board, puts.as_str(), 1)?;
     }
-    text.push_str("[[board]]\n")?;
-    text.push_str(TAKER)?;
-    text.push_str("size = 16\nscript = '''\n")?;
-    for _ in 0..words.wrapping_mul(2) {
-        text.push_str("take 1\n")?;
-    }
-    text.push_str("'''\n")?;
+    push_board(&mut text, TAKER, "take 1\n", words.wrapping_mul(2) as usize)?;
     Ok(text)
 }
 
@@ -106,16 +98,6 @@ fn expect_taken(rt: &impl Abort, lines: &[(u16, LineReply)], words: u32) {
     assert_eq!(rt; seconds, second.wrapping_add(words));
 }
 
-/// Checks that the mailbox has counted all words, both as put and as taken.
-fn expect_counts(rt: &impl Abort, report: &Report, counts: &[u8]) {
-    let Some(board) = report.boards.first() else {
-        panic!(rt; "no board")
-    };
-    for (offset, byte) in (COUNTS_AT..).zip(counts.iter()) {
-        assert_eq!(rt; board.memory.byte(offset), Some(*byte));
-    }
-}
-
 /// Checks the lines and the counts of a report in which each putting processor puts `words` words.
 fn expect_queue(rt: &impl Abort, report: &Report, words: u32, counts: &[u8]) {
     let [_, first, second, taker] = report.lines.as_slice() else {
@@ -124,7 +106,7 @@ fn expect_queue(rt: &impl Abort, report: &Report, words: u32, counts: &[u8]) {
     expect_put(rt, first.as_slice(), words);
     expect_put(rt, second.as_slice(), words);
     expect_taken(rt, taker.as_slice(), words);
-    expect_counts(rt, report, counts);
+    expect_bytes(rt, report, COUNTS_AT, counts);
 }
 
 /// Returns the configuration in which each putting processor puts `words` words.

@@ -1,5 +1,5 @@
 //! Processors that add to one word: four of them, and one in each of the 21 slots.
-use crate::runs::{Open, configured, report_of};
+use crate::runs::{Open, configured, expect_bytes, push_board, report_of};
 use std::alloc::{AllocError, Global};
 use std::process::Abort;
 use std::sync::Wait;
@@ -17,31 +17,6 @@ const MOST: u16 = 1000;
 
 /// The offset of the word in its board.
 const OFFSET: u32 = 16;
-
-/// The slot and the base address of each board.
-static PLACES: [&str; 21] = [
-    "slot = 1\nbase = 0x0000",
-    "slot = 2\nbase = 0x1000",
-    "slot = 3\nbase = 0x2000",
-    "slot = 4\nbase = 0x3000",
-    "slot = 5\nbase = 0x4000",
-    "slot = 6\nbase = 0x5000",
-    "slot = 7\nbase = 0x6000",
-    "slot = 8\nbase = 0x7000",
-    "slot = 9\nbase = 0x8000",
-    "slot = 10\nbase = 0x9000",
-    "slot = 11\nbase = 0xa000",
-    "slot = 12\nbase = 0xb000",
-    "slot = 13\nbase = 0xc000",
-    "slot = 14\nbase = 0xd000",
-    "slot = 15\nbase = 0xe000",
-    "slot = 16\nbase = 0xf000",
-    "slot = 17\nbase = 0x10000",
-    "slot = 18\nbase = 0x11000",
-    "slot = 19\nbase = 0x12000",
-    "slot = 20\nbase = 0x13000",
-    "slot = 21\nbase = 0x14000",
-];
 
 /// How the boards share the bus: the arbiter's kind, and the levels that the slots request on, in
 /// rotation.
@@ -62,22 +37,21 @@ static ROTATING: Bus = Bus {
     levels: ["level = 3\n", "level = 2\n", "level = 1\n", "level = 0\n"],
 };
 
-/// Returns a file of the first `count` boards, each with `lines` lines that add.
-fn boards(alloc: Global, bus: &Bus, count: usize, lines: u16) -> Result<String, AllocError> {
+/// Returns a file of boards in the first `count` slots, each with `lines` lines that add.
+fn boards(alloc: Global, bus: &Bus, count: u32, lines: u16) -> Result<String, AllocError> {
     let mut text = String::new(alloc);
     text.push_str(bus.arbiter)?;
-    for (number, place) in PLACES.iter().enumerate() {
-        if count <= number {
-            break;
-        }
-        text.push_str("[[board]]\n")?;
-        text.push_str(bus.levels[number % 4])?;
-        text.push_str(place)?;
-        text.push_str("\nsize = 32\nscript = \"\"\"\n")?;
-        for _ in 0..lines {
-            text.push_str("m 09 00000010 4 add 00000001\n")?;
-        }
-        text.push_str("\"\"\"\n")?;
+    for number in 0..count {
+        let level = bus.levels[number as usize % 4];
+        let slot = number.wrapping_add(1);
+        let base = number.wrapping_mul(0x1000);
+        let keys = format!(in alloc; "slot = {slot}\nbase = {base}\nsize = 32\n{level}")?;
+        push_board(
+            &mut text,
+            keys.as_str(),
+            "m 09 00000010 4 add 00000001\n",
+            usize::from(lines),
+        )?;
     }
     Ok(text)
 }
@@ -126,16 +100,6 @@ fn expect_steps(rt: &impl Abort, report: &Report, sum: u32, lines: u16) {
     assert_eq!(rt; report.arbiter_steps, arbiter_steps);
 }
 
-/// Checks the bytes of the word after the run.
-fn expect_word(rt: &impl Abort, report: &Report, word: [u8; 4]) {
-    let Some(board) = report.boards.first() else {
-        panic!(rt; "no board")
-    };
-    for (offset, byte) in (OFFSET..).zip(word.iter()) {
-        assert_eq!(rt; board.memory.byte(offset), Some(*byte));
-    }
-}
-
 /// Checks that the lines read each number below the final value once, and that the word has the
 /// final value.
 fn expect_sum(
@@ -152,7 +116,7 @@ fn expect_sum(
         assert_eq!(rt; *number as usize, i);
     }
     expect_steps(rt, report, sum, lines);
-    expect_word(rt, report, word);
+    expect_bytes(rt, report, OFFSET, &word);
     Ok(())
 }
 
@@ -161,7 +125,7 @@ fn add_up<R: Threads + Wait + Abort + Sync>(
     rt: &R,
     alloc: Global,
     bus: &Bus,
-    count: usize,
+    count: u32,
     lines: u16,
     word: [u8; 4],
 ) -> Result<(), AllocError> {
