@@ -1,9 +1,12 @@
 -- The first of all refusals of lines is the one with which the script is refused.
-use Rattle.std.proofs.Common.{◌≡◌, ℕ, ◌+◌, List, [], ◌∷◌, ◌++◌, Option, Some, None, Result, Ok, Err, refl, sym}
+use Rattle.std.proofs.Common.{◌≡◌, ℕ, ◌+◌, false, List, [], ◌∷◌, ◌++◌, Option, Some, None, Result, Ok, Err, refl, sym}
 use Rattle.vme_grammar.specs.declared.line.Line.{Line}
 use Rattle.vme_grammar.specs.declared.fault.LineFault.{LineFault}
 use Rattle.vme_script.specs.declared.context.ScriptContext.{ScriptContext}
-use Rattle.vme_script.specs.Contexts.{refusal_of, unless_refused, line_within}
+use Rattle.vme_grammar.specs.declared.fault.LineFault.TheVariants.{BadNumber}
+use Rattle.vme_script.specs.declared.mailbox_numbers.MailboxNumbers.TheVariants.{Declared}
+use Rattle.vme_script.specs.MailboxNumbers.{may_name}
+use Rattle.vme_script.specs.Contexts.{boxes_of, refusal_of, unless_refused, line_within}
 use Rattle.vme_grammar.specs.Grammar.{line_of}
 use Rattle.vme_script.specs.declared.fault.ScriptRefusal.{ScriptRefusal}
 use Rattle.vme_script.specs.declared.script.ScriptLine.{ScriptLine}
@@ -60,3 +63,11 @@ pub fault_asked :
     → refusal ≡ refusal_of rules line → refusal ≡ fault_of (line_within rules text)
 unfolding line_within
 fault_asked rules text line refusal read is = rw (read, is) (sym (unless_faulted (refusal_of rules line) line))
+
+-- a line that names an undeclared mailbox has that refusal in each context with this number of mailboxes
+pub fault_unnamed :
+    (rules : ScriptContext) (text : List ℕ) (line : Line) (count : ℕ) → line_of text ≡ Ok (Some line)
+    → boxes_of rules ≡ Declared count → may_name (Declared count) line ≡ false
+    → fault_of (line_within rules text) ≡ Some BadNumber
+unfolding line_within
+fault_unnamed rules text line count read boxes other = rw (read, boxes, other) refl

@@ -1,5 +1,7 @@
 pub mod Sites
 pub mod Heads
 pub mod Boards
+pub mod Declared
+pub mod Slots
 pub mod Severities
 pub mod Scripts

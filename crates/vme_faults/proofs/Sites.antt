@@ -2,10 +2,16 @@
 use Rattle.std.proofs.Common.{◌≡◌, ◌++◌, List, [], append_assoc}
 use Rattle.std.proofs.lemmas.List.{append-nil}
 
--- a list of findings appended to some, of which it is known where they come from
-pub appended :
-    {X : Type 0} (old a b first second : List X) → first ≡ old ++ a → second ≡ first ++ b → second ≡ old ++ (a ++ b)
-appended old a b first second e f = rw (f, e) (append_assoc old a b)
+-- two lists of findings, appended one after another
+pub two_found :
+    {X : Type 0} (old a b x1 x2 : List X) → x1 ≡ old ++ a → x2 ≡ x1 ++ b → x2 ≡ old ++ (a ++ (b ++ []))
+two_found old a b x1 x2 e1 e2 = rw (e2, e1) (simp (append_assoc, append-nil))
+
+-- three lists of findings, appended one after another
+pub three_found :
+    {X : Type 0} (old a b c x1 x2 x3 : List X) → x1 ≡ old ++ a → x2 ≡ x1 ++ b → x3 ≡ x2 ++ c
+    → x3 ≡ old ++ (a ++ (b ++ (c ++ [])))
+three_found old a b c x1 x2 x3 e1 e2 e3 = rw (e3, e2, e1) (simp (append_assoc, append-nil))
 
 -- eight lists of findings, appended one after another
 pub eight_found :

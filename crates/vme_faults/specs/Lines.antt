@@ -3,7 +3,8 @@ use Rattle.std.specs.Prelude.{◌≡◌, ℕ, ◌+◌, List, [], ◌∷◌, ◌+
 use Rattle.vme_grammar.specs.declared.line.Line.{Line}
 use Rattle.vme_grammar.specs.declared.fault.LineFault.{LineFault}
 use Rattle.vme_script.specs.declared.context.ScriptContext.{ScriptContext}
-use Rattle.vme_script.specs.Contexts.{line_within}
+use Rattle.vme_script.specs.Contexts.{boxes_of, line_within}
+use Rattle.vme_script.specs.declared.mailbox_numbers.MailboxNumbers.TheVariants.{Declared}
 use Rattle.vme_script.specs.declared.fault.ScriptRefusal.{ScriptRefusal}
 use Rattle.vme_script.specs.declared.fault.ScriptRefusal.TheVariants.{BadLine}
 use Rattle.vme_faults.specs.declared.script.FaultyLine.{FaultyLine}
@@ -33,3 +34,8 @@ refusal_for faulty = script_refusal faulty.number (line_fault faulty.cause)
 abbrev pub IsFirstOf : {A F : Type 0} → Result A F → List F → Type 0
 IsFirstOf (Ok x) refusals = refusals ≡ []
 IsFirstOf {F = F} (Err refusal) refusals = (more : List F) × (refusals ≡ refusal ∷ more)
+
+-- a context declares this many mailboxes, if the number is known
+abbrev pub Declares : Option ℕ → ScriptContext → Type 0
+Declares None rules = Unit {0}
+Declares (Some count) rules = boxes_of rules ≡ Declared count

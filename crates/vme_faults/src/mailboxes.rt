@@ -1,4 +1,12 @@
 //! The mailbox tables of a file, and their faults.
+ghost use Rattle.std.specs.Prelude.{◌≡◌, ◌++◌, map, if◌then◌else◌, None, IfOk};
+ghost use Rattle.std.specs.Option.{option_and_then, option_map_or};
+ghost use Rattle.vme_script.specs.BoardRanges.{is_within};
+ghost use Rattle.vme_script.specs.Causes.{mailbox_refusal, refused_as};
+ghost use Rattle.vme_faults.specs.Sites.{sited, at_value, at_values};
+ghost use Rattle.vme_faults.specs.Boards.{refusal_in};
+ghost use Rattle.vme_faults.specs.Mailboxes.{mailbox_judged, code_refusal, address_refusal, slots_refusal, number_refusals, board_refusal, place_refusals};
+
 use crate::cause::{Cause, MailboxCause};
 use crate::finding::Finding;
 use crate::section::Section;
@@ -16,6 +24,13 @@ use vme_script::{
 /// The bit of a code that states supervisory privilege.
 pub(crate) const SUPERVISORY: u8 = 0x04;
 
+/// No bytes, which are shared with none.
+const NO_BYTES: BoardRange = BoardRange {
+    board: 0,
+    offset: 0,
+    len: 0,
+};
+
 /// What is known of a mailbox.
 #[derive(Clone, Copy)]
 pub(crate) struct KnownMailbox {
@@ -30,11 +45,7 @@ impl KnownMailbox {
     pub(crate) fn unknown() -> KnownMailbox {
         KnownMailbox {
             lawful: None,
-            place: BoardRange {
-                board: 0,
-                offset: 0,
-                len: 0,
-            },
+            place: NO_BYTES,
         }
     }
 }
@@ -60,16 +71,53 @@ pub(crate) fn read_keys(
     Ok(MailboxKeys { am, addr, slots })
 }
 
-/// Finds the fault of the value of `key`, if there is one.
+/// Finds the fault of the value of `key`, if it is known and has one.
 fn judge(
     section: &Section<'_>,
     key: Key,
     judged: Option<Result<(), MailboxCause>>,
     found: &mut Vec<Finding>,
-) -> Result<(), AllocError> {
+) -> Result<(), AllocError>
+    ensures { IfOk result (λ _. map sited found.new.items ≡ map sited found.old.items
+        ++ at_value section.now.table section.now.index key (mailbox_judged judged)) }
+{
     match judged {
-        Some(Err(cause)) => section.find_at(key, Cause::Mailbox(cause), found),
-        _ => Ok(()),
+        Some(Err(cause)) => {
+            section.find_at(key, Cause::Mailbox(cause), found)?;
+            Ok(())
+        }
+        Some(Ok(())) => Ok(()),
+        None => Ok(()),
+    }
+}
+
+/// The judgement of a code.
+fn code_judged(am: Option<u32>) -> Option<Result<(), MailboxCause>>
+    ensures { mailbox_judged result ≡ option_and_then code_refusal am }
+{
+    match am {
+        Some(am) => Some(check_code(am)),
+        None => None,
+    }
+}
+
+/// The judgement of an address.
+fn address_judged(addr: Option<u32>) -> Option<Result<(), MailboxCause>>
+    ensures { mailbox_judged result ≡ option_and_then address_refusal addr }
+{
+    match addr {
+        Some(addr) => Some(check_address(addr)),
+        None => None,
+    }
+}
+
+/// The judgement of a number of slots.
+fn slots_judged(slots: Option<u32>) -> Option<Result<(), MailboxCause>>
+    ensures { mailbox_judged result ≡ option_and_then slots_refusal slots }
+{
+    match slots {
+        Some(slots) => Some(check_slots(slots)),
+        None => None,
     }
 }
 
@@ -79,25 +127,21 @@ fn check_numbers(
     section: &Section<'_>,
     keys: MailboxKeys,
     found: &mut Vec<Finding>,
-) -> Result<Option<Mailbox>, AllocError> {
-    judge(section, Key::Am, keys.am.map(|am| check_code(am)), found)?;
-    judge(
-        section,
-        Key::Addr,
-        keys.addr.map(|addr| check_address(addr)),
-        found,
-    )?;
-    judge(
-        section,
-        Key::Slots,
-        keys.slots.map(|slots| check_slots(slots)),
-        found,
-    )?;
+) -> Result<Option<Mailbox>, AllocError>
+    ensures { IfOk result (λ _. map sited found.new.items ≡ map sited found.old.items
+        ++ at_values section.now.table section.now.index (number_refusals keys.am keys.addr keys.slots)) }
+{
+    let _am = judge(section, Key::Am, code_judged(keys.am), found)?;
+    let _addr = judge(section, Key::Addr, address_judged(keys.addr), found)?;
+    let _slots = judge(section, Key::Slots, slots_judged(keys.slots), found)?;
+    Ok(with_numbers(keys))
+}
+
+/// The mailbox with these numbers, if all of them are known and lawful.
+fn with_numbers(keys: MailboxKeys) -> Option<Mailbox> {
     match (keys.am, keys.addr, keys.slots) {
-        (Some(am), Some(addr), Some(slots)) => {
-            Ok(mailbox_from_table(MailboxTable { am, addr, slots }))
-        }
-        _ => Ok(None),
+        (Some(am), Some(addr), Some(slots)) => mailbox_from_table(MailboxTable { am, addr, slots }),
+        _ => None,
     }
 }
 
@@ -119,47 +163,92 @@ pub(crate) fn check(
         return Ok(KnownMailbox::unknown());
     };
     match boards.get(place.board) {
-        Some(board) => check_place(section, (mailbox, place), *board, earlier, found),
+        Some(board) => check_place(section, mailbox, place, board, earlier, found),
         None => Ok(KnownMailbox::unknown()),
     }
 }
 
-/// Finds the faults of a mailbox that begins on a board.
+/// Finds the faults of a mailbox whose bytes begin at `place`, on this board.
 fn check_place(
     section: &Section<'_>,
-    (mailbox, place): (Mailbox, BoardRange),
-    board: KnownBoard<'_>,
+    mailbox: Mailbox,
+    place: BoardRange,
+    board: &KnownBoard<'_>,
     earlier: &[BoardRange],
     found: &mut Vec<Finding>,
-) -> Result<KnownMailbox, AllocError> {
-    let size = match board.entry {
+) -> Result<KnownMailbox, AllocError>
+    ensures { IfOk result (λ _. map sited found.new.items ≡ map sited found.old.items
+        ++ at_values section.now.table section.now.index
+        (place_refusals place (option_map_or (λ e. e.size) board.now.entry 0) board.now.width board.now.rmw earlier.now)) }
+{
+    let size = board_size(board);
+    let inside = check_inside(mailbox, place, board.name(place.board), size);
+    let _slots = judge(section, Key::Slots, Some(inside), found)?;
+    let judged = rest_judged(board, place, size, earlier);
+    let _addr = judge(section, Key::Addr, judged, found)?;
+    Ok(KnownMailbox {
+        lawful: lawful_if(mailbox, board, judged),
+        place: known_place(place, judged),
+    })
+}
+
+/// The judgement of the board and of the bytes of earlier mailboxes, if the bytes end within the
+/// board, which has `size` bytes.
+fn rest_judged(
+    board: &KnownBoard<'_>,
+    place: BoardRange,
+    size: u32,
+    earlier: &[BoardRange],
+) -> Option<Result<(), MailboxCause>>
+    ensures { mailbox_judged result ≡ (if is_within place size then
+        board_refusal place board.now.width board.now.rmw earlier.now else None) }
+{
+    if !place.is_within(size) {
+        return None;
+    }
+    Some(board_judged(board, place, earlier))
+}
+
+/// The number of bytes of a board, or 0 if its range is unknown.
+fn board_size(board: &KnownBoard<'_>) -> u32
+    ensures { result ≡ option_map_or (λ e. e.size) board.now.entry 0 }
+{
+    match board.entry {
         Some(entry) => entry.size,
         None => 0,
-    };
-    let inside = check_inside(mailbox, place, board.name(place.board), size);
-    judge(section, Key::Slots, Some(inside), found)?;
-    if inside.is_err() {
-        return Ok(KnownMailbox::unknown());
     }
-    let judged = board_judged(board, place, earlier);
-    judge(section, Key::Addr, Some(judged), found)?;
-    let is_known = board.width.is_some() && board.rmw.is_some();
-    Ok(KnownMailbox {
-        lawful: match judged {
-            Ok(()) if is_known => Some(mailbox),
-            _ => None,
-        },
-        place,
-    })
+}
+
+/// The mailbox, if it is lawful and all of its board is known.
+fn lawful_if(
+    mailbox: Mailbox,
+    board: &KnownBoard<'_>,
+    judged: Option<Result<(), MailboxCause>>,
+) -> Option<Mailbox> {
+    match (judged, board.width, board.rmw) {
+        (Some(Ok(())), Some(_), Some(_)) => Some(mailbox),
+        _ => None,
+    }
+}
+
+/// The bytes of a mailbox, or no bytes if they do not end within the board.
+fn known_place(place: BoardRange, judged: Option<Result<(), MailboxCause>>) -> BoardRange {
+    match judged {
+        Some(_) => place,
+        None => NO_BYTES,
+    }
 }
 
 /// The judgement of a mailbox's board by what is known of it, and else of the bytes of earlier
 /// mailboxes.
 fn board_judged(
-    board: KnownBoard<'_>,
+    board: &KnownBoard<'_>,
     place: BoardRange,
     earlier: &[BoardRange],
-) -> Result<(), MailboxCause> {
+) -> Result<(), MailboxCause>
+    ensures { refusal_in (refused_as mailbox_refusal result) ≡
+        board_refusal place board.now.width board.now.rmw earlier.now }
+{
     let name = board.name(place.board);
     if let Some(width) = board.width {
         check_width(name, width)?;

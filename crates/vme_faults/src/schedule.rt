@@ -1,4 +1,9 @@
 //! The schedule, the tries, the rounds and the arbiter, with their faults.
+ghost use Rattle.std.specs.Prelude.{◌≡◌, ◌++◌, map, IfOk};
+ghost use Rattle.vme_script.specs.Causes.{schedule_refusal, refused_as};
+ghost use Rattle.vme_faults.specs.Sites.{sited, at_value};
+ghost use Rattle.vme_faults.specs.Boards.{refusal_in};
+
 use crate::cause::{Cause, DocumentCause, ScheduleCause, ValueKind};
 use crate::finding::{Finding, find};
 use crate::section::{Section, find_range};
@@ -14,27 +19,33 @@ pub(crate) fn check_numbers(
     found: &mut Vec<Finding>,
 ) -> Result<(), AllocError> {
     if let Some(word) = section.str_or(Key::Arbiter, "priority", found)? {
-        find_fault(section, Key::Arbiter, kind_named(word).err(), found)?;
+        judge(section, Key::Arbiter, kind_named(word), found)?;
     }
     if let Some(tries) = section.whole_or(Key::Tries, 1000, found)? {
-        find_fault(section, Key::Tries, check_tries(tries).err(), found)?;
+        judge(section, Key::Tries, check_tries(tries), found)?;
     }
     if let Some(rounds) = section.whole_or(Key::Rounds, 0, found)? {
-        find_fault(section, Key::Rounds, check_rounds(rounds).err(), found)?;
+        judge(section, Key::Rounds, check_rounds(rounds), found)?;
     }
     Ok(())
 }
 
-/// Finds a fault of the value of `key`, if there is one.
-fn find_fault(
+/// Finds the fault of the value of `key`, if it has one.
+fn judge<T: Copy>(
     section: &Section<'_>,
     key: Key,
-    fault: Option<ScheduleCause>,
+    judged: Result<T, ScheduleCause>,
     found: &mut Vec<Finding>,
-) -> Result<(), AllocError> {
-    match fault {
-        Some(cause) => section.find_at(key, Cause::Schedule(cause), found),
-        None => Ok(()),
+) -> Result<(), AllocError>
+    ensures { IfOk result (λ _. map sited found.new.items ≡ map sited found.old.items
+        ++ at_value section.now.table section.now.index key (refusal_in (refused_as schedule_refusal judged))) }
+{
+    match judged {
+        Ok(_) => Ok(()),
+        Err(cause) => {
+            section.find_at(key, Cause::Schedule(cause), found)?;
+            Ok(())
+        }
     }
 }
 

@@ -1,9 +1,10 @@
 //! The faults of the lines of a script.
-ghost use Rattle.std.specs.Prelude.{◌≡◌, Some, IfOk, map, take, option_map};
+ghost use Rattle.std.specs.Prelude.{◌≡◌, Some, IfOk, IfSome, map, take, option_map};
 ghost use Rattle.std.specs.Str.Lines.{lines};
 ghost use Rattle.vme_script.specs.Contexts.{line_within};
 ghost use Rattle.vme_faults.specs.Causes.{line_fault};
-ghost use Rattle.vme_faults.specs.Lines.{fault_of, refusal_for, line_refusals};
+ghost use Rattle.vme_script.specs.declared.context.ScriptContext.{ScriptContext};
+ghost use Rattle.vme_faults.specs.Lines.{fault_of, refusal_for, line_refusals, Declares};
 
 use crate::cause::{BoardName, LineCause};
 use crate::fields::{LocatedCause, cause_of};
@@ -118,8 +119,12 @@ fn no_mailbox(text: &[u8], line: &Line, declared: usize) -> LocatedCause
     }
 }
 
-/// The fault of a line if of its context only the number of mailboxes may be known.
-pub(crate) fn fault_alone(text: &[u8], around: &Surroundings<'_>) -> Option<LocatedCause> {
+/// The fault of a line if of its context only the number of mailboxes may be known: the line has it
+/// in each such context.
+pub(crate) fn fault_alone(text: &[u8], around: &Surroundings<'_>) -> Option<LocatedCause>
+    ensures { IfSome result (λ found. (rules : ScriptContext) → Declares around.now.declared rules →
+        fault_of (line_within rules text.now) ≡ line_fault found.cause) }
+{
     match parse_line(text) {
         Ok(Some(line)) => {
             let declared = around.declared?;
