@@ -124,12 +124,7 @@ impl AttemptTask<'_> {
 /// Performs the next event of an attempt at a lock or a mailbox on `core` for processor `who`, gives
 /// its task the reply and returns whether the line has ended with this event. Another attempt begins
 /// in place of one that ends with a reply that asks for it, if another is left.
-pub(crate) fn shared_step_on(
-    task: &mut SharedTask<'_>,
-    left: &mut u32,
-    core: &mut Core,
-    who: usize,
-) -> bool
+pub(crate) fn shared_step_on(task: &mut SharedTask<'_>, left: &mut u32, core: &mut Core, who: usize) -> bool
     requires who { who < process_count core.old }
     requires can { CanMake core.old (call_in (shared_to_do task.old)) }
     ensures step { AdvancesOn line_to_do line_advance who core.old core.new
