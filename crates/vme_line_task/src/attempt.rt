@@ -1,4 +1,4 @@
-//! An attempt at a line, and how another one follows.
+//! Attempts at a line, one after another.
 ghost use Rattle.std.specs.Prelude.{◌≡◌, ◌≢◌, ◌<◌, option_map, option_copied, is_some, Some, None, IfSome, IfOk, IfErr};
 ghost use Rattle.vme_core.specs.EventRefs.{call_asked};
 ghost use Rattle.vme_core.specs.Machines.{process_count};
@@ -11,21 +11,26 @@ ghost use Rattle.vme_line_task.specs.Attempts.{shared_attempts};
 ghost use Rattle.vme_line_task.specs.CurrentData.{attempt_datum, attempt_command};
 ghost use Rattle.vme_line_task.specs.Tables.{next_wants_retry, sharing_next};
 ghost use Rattle.vme_line_task.specs.Events.{reply_in};
-ghost use Rattle.vme_line_task.specs.Machine.{attempt_advance, attempt_to_do, attempts_again, line_advance, line_to_do};
+ghost use Rattle.vme_line_task.specs.Machine.{attempt_advance, attempt_to_do, attempts_again, attempts_advance, attempts_to_do};
 
 use crate::reply::LineReplyRef;
 use crate::wait::AwaitTask;
 use vme_core::{Core, EventRef, EventReply};
-use vme_cycle::CycleFault;
 use vme_master::{Caller, CurrentDatum, Task, call_event};
 use vme_memory::BoardCmd;
 use vme_shared::{LineReply, SharedOutcome, SharedTask};
 
-/// An attempt at a line, or the refusal of its request.
+/// Attempts at a line, one of which is the current one.
+#[derive(Debug, Drop)]
+pub struct Attempts<'a> {
+    pub(crate) attempt: AttemptTask<'a>,
+    /// The number of attempts that are left, the current one among them.
+    pub(crate) left: u32,
+}
+
+/// An attempt at a line.
 #[derive(Debug, Drop)]
 pub enum AttemptTask<'a> {
-    /// The line's request is refused.
-    Refused(CycleFault),
     /// A transfer over the bus, or a command to the local port.
     Transfer(Task<'a>),
     /// A read that waits for bytes.
@@ -34,14 +39,73 @@ pub enum AttemptTask<'a> {
     Shared(SharedTask<'a>),
 }
 
-impl AttemptTask<'_> {
-    /// Gives the attempt the reply to its event, or `None` at the first call.
+impl Attempts<'_> {
+    /// Gives the current attempt the reply to its event, or `None` at the first call. If the
+    /// attempt ends with a reply that asks for another and another is left, that one begins.
     pub(crate) fn advance(&mut self, given: Option<&EventReply>)
+        ensures task { self.new ≡ attempts_advance self.old (option_copied given.entry) }
+        ensures begun { attempts_to_do self.new ≢ NotStarted }
+    {
+        self.attempt.advance(given);
+        self.retry();
+    }
+
+    /// Begins another attempt, if the current one has ended with a reply that asks for another and
+    /// another is left.
+    fn retry(&mut self)
+        ensures task { self.new ≡ attempts_again self.old (attempts_to_do self.old) }
+        ensures begun { attempts_to_do self.old ≢ NotStarted → attempts_to_do self.new ≢ NotStarted }
+    {
+        match &mut self.attempt {
+            AttemptTask::Transfer(_) => {}
+            AttemptTask::Await(wait) => wait.retry(&mut self.left),
+            AttemptTask::Shared(task) => shared_retry(task, &mut self.left),
+        }
+    }
+
+    /// Performs the current attempt's next event on `core` for processor `who`, gives the attempt
+    /// the reply and returns whether the line has ended with this event. Another attempt may begin.
+    #[inline(always)]
+    pub(crate) fn step_on(&mut self, core: &mut Core, who: usize) -> bool
+        requires who { who < process_count core.old }
+        requires can { CanMake core.old (call_in (attempts_to_do self.old)) }
+        ensures step { AdvancesOn attempts_to_do attempts_advance who core.old core.new self.old self.new }
+        ensures ended { result ≡ ends_by_call attempts_to_do self.old self.new }
+    {
+        match &mut self.attempt {
+            AttemptTask::Transfer(task) => task.step_on(core, who),
+            AttemptTask::Await(wait) => wait.step_on(&mut self.left, core, who),
+            AttemptTask::Shared(task) => shared_step_on(task, &mut self.left, core, who),
+        }
+    }
+
+    /// Performs the current attempt's next event by a call of `caller`, gives the attempt the reply
+    /// and returns whether the line has ended with this event. Another attempt may begin.
+    ///
+    /// # Errors
+    /// The fault of the call. The attempts are unchanged.
+    pub(crate) fn step_by<E, C>(&mut self, caller: &mut C, with: &E) -> Result<bool, C::Fault>
+    where
+        C: Caller<E>,
+        requires { IfSome (call_in (attempts_to_do self.old)) (C.can with.now caller.old) }
+        ensures step { IfOk result (λ _. AdvancesBy C.performs attempts_to_do attempts_advance caller.old caller.new self.old self.new) }
+        ensures ended { IfOk result (λ ended. ended ≡ ends_by_call attempts_to_do self.old self.new) }
+        ensures unchanged { IfErr result (λ _. self.new ≡ self.old) }
+    {
+        match &mut self.attempt {
+            AttemptTask::Transfer(task) => transfer_step_by(task, caller, with),
+            AttemptTask::Await(wait) => wait.step_by(&mut self.left, caller, with),
+            AttemptTask::Shared(task) => shared_step_by(task, &mut self.left, caller, with),
+        }
+    }
+}
+
+impl AttemptTask<'_> {
+    fn advance(&mut self, given: Option<&EventReply>)
         ensures task { self.new ≡ attempt_advance self.old (option_copied given.entry) }
         ensures begun { attempt_to_do self.new ≢ NotStarted }
     {
         match self {
-            AttemptTask::Refused(_) => {}
             AttemptTask::Transfer(task) => task.advance(given),
             AttemptTask::Await(wait) => wait.advance(given),
             AttemptTask::Shared(task) => task.advance(given),
@@ -54,20 +118,18 @@ impl AttemptTask<'_> {
         ensures { option_map call_asked result ≡ call_in (attempt_to_do self.now) }
     {
         match self {
-            AttemptTask::Refused(_) => None,
             AttemptTask::Transfer(task) => task.event_ref(),
             AttemptTask::Await(wait) => wait.event_ref(),
             AttemptTask::Shared(task) => task.event_ref(),
         }
     }
 
-    /// Returns how far the transfer over the bus has come, or `None` for a refusal, for a local
-    /// command and for a lock or a mailbox that has ended.
+    /// Returns how far the transfer over the bus has come, or `None` for a local command and for a
+    /// lock or a mailbox that has ended.
     pub(crate) fn current_datum(&self) -> Option<CurrentDatum<'_>>
         ensures { result ≡ attempt_datum self.now }
     {
         match self {
-            AttemptTask::Refused(_) => None,
             AttemptTask::Transfer(task) => task.current_datum(),
             AttemptTask::Await(wait) => wait.current_datum(),
             AttemptTask::Shared(task) => task.current_datum(),
@@ -80,7 +142,7 @@ impl AttemptTask<'_> {
     {
         match self {
             AttemptTask::Transfer(task) => task.local_command(),
-            AttemptTask::Refused(_) | AttemptTask::Await(_) | AttemptTask::Shared(_) => None,
+            AttemptTask::Await(_) | AttemptTask::Shared(_) => None,
         }
     }
 
@@ -89,7 +151,6 @@ impl AttemptTask<'_> {
         ensures { result ≡ is_some (result_in (attempt_to_do self.now)) }
     {
         match self {
-            AttemptTask::Refused(_) => true,
             AttemptTask::Transfer(task) => task.is_finished(),
             AttemptTask::Await(wait) => wait.is_finished(),
             AttemptTask::Shared(task) => task.outcome().is_some(),
@@ -101,7 +162,6 @@ impl AttemptTask<'_> {
         ensures { option_map reply_in result ≡ result_in (attempt_to_do self.now) }
     {
         match self {
-            AttemptTask::Refused(fault) => Some(LineReplyRef::Refused(*fault)),
             AttemptTask::Transfer(task) => Some(LineReplyRef::Transfer(task.outcome()?)),
             AttemptTask::Await(wait) => wait.reply(),
             AttemptTask::Shared(task) => Some(LineReplyRef::Shared(task.outcome()?)),
@@ -113,7 +173,6 @@ impl AttemptTask<'_> {
         ensures { result ≡ result_in (attempt_to_do self.entry) }
     {
         match self {
-            AttemptTask::Refused(fault) => Some(LineReply::Refused(fault)),
             AttemptTask::Transfer(task) => Some(LineReply::Transfer(task.into_outcome()?)),
             AttemptTask::Await(wait) => wait.into_reply(),
             AttemptTask::Shared(task) => shared_reply(&task),
@@ -124,12 +183,12 @@ impl AttemptTask<'_> {
 /// Performs the next event of an attempt at a lock or a mailbox on `core` for processor `who`, gives
 /// its task the reply and returns whether the line has ended with this event. Another attempt begins
 /// in place of one that ends with a reply that asks for it, if another is left.
-pub(crate) fn shared_step_on(task: &mut SharedTask<'_>, left: &mut u32, core: &mut Core, who: usize) -> bool
+fn shared_step_on(task: &mut SharedTask<'_>, left: &mut u32, core: &mut Core, who: usize) -> bool
     requires who { who < process_count core.old }
     requires can { CanMake core.old (call_in (shared_to_do task.old)) }
-    ensures step { AdvancesOn line_to_do line_advance who core.old core.new
+    ensures step { AdvancesOn attempts_to_do attempts_advance who core.old core.new
         (shared_attempts task.old left.old) (shared_attempts task.new left.new) }
-    ensures ended { result ≡ ends_by_call line_to_do (shared_attempts task.old left.old) (shared_attempts task.new left.new) }
+    ensures ended { result ≡ ends_by_call attempts_to_do (shared_attempts task.old left.old) (shared_attempts task.new left.new) }
 {
     let had_ended = task.outcome().is_some();
     if task.advance_on_retrying(core, who, *left > 1) {
@@ -149,7 +208,7 @@ pub(crate) fn shared_step_on(task: &mut SharedTask<'_>, left: &mut u32, core: &m
 ///
 /// # Errors
 /// The fault of the call. The task is unchanged.
-pub(crate) fn transfer_step_by<E, C: Caller<E>>(
+fn transfer_step_by<E, C: Caller<E>>(
     task: &mut Task<'_>,
     caller: &mut C,
     with: &E,
@@ -167,17 +226,17 @@ pub(crate) fn transfer_step_by<E, C: Caller<E>>(
 ///
 /// # Errors
 /// The fault of the call. The attempt is unchanged.
-pub(crate) fn shared_step_by<E, C: Caller<E>>(
+fn shared_step_by<E, C: Caller<E>>(
     task: &mut SharedTask<'_>,
     left: &mut u32,
     caller: &mut C,
     with: &E,
 ) -> Result<bool, C::Fault>
     requires { IfSome (call_in (shared_to_do task.old)) (C.can with.now caller.old) }
-    ensures step { IfOk result (λ _. AdvancesBy C.performs line_to_do line_advance caller.old caller.new
+    ensures step { IfOk result (λ _. AdvancesBy C.performs attempts_to_do attempts_advance caller.old caller.new
         (shared_attempts task.old left.old) (shared_attempts task.new left.new)) }
     ensures ended { IfOk result (λ ended.
-        ended ≡ ends_by_call line_to_do (shared_attempts task.old left.old) (shared_attempts task.new left.new)) }
+        ended ≡ ends_by_call attempts_to_do (shared_attempts task.old left.old) (shared_attempts task.new left.new)) }
     ensures unchanged { IfErr result (λ _. shared_attempts task.new left.new ≡ shared_attempts task.old left.old) }
 {
     let Some(event) = task.event_ref() else {
@@ -191,11 +250,11 @@ pub(crate) fn shared_step_by<E, C: Caller<E>>(
 
 /// Begins another attempt at a lock or a mailbox, if the current one has ended with a reply that
 /// asks for it and another is left.
-pub(crate) fn shared_retry(task: &mut SharedTask<'_>, left: &mut u32)
+fn shared_retry(task: &mut SharedTask<'_>, left: &mut u32)
     ensures attempts { shared_attempts task.new left.new ≡
-        attempts_again (shared_attempts task.old left.old) (line_to_do (shared_attempts task.old left.old)) }
-    ensures begun { line_to_do (shared_attempts task.old left.old) ≢ NotStarted →
-        line_to_do (shared_attempts task.new left.new) ≢ NotStarted }
+        attempts_again (shared_attempts task.old left.old) (attempts_to_do (shared_attempts task.old left.old)) }
+    ensures begun { attempts_to_do (shared_attempts task.old left.old) ≢ NotStarted →
+        attempts_to_do (shared_attempts task.new left.new) ≢ NotStarted }
 {
     if *left > 1 && shared_wants_retry(task) {
         *left -= 1;

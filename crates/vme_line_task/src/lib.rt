@@ -15,7 +15,7 @@ mod task;
 mod todo;
 mod wait;
 
-pub use attempt::AttemptTask;
+pub use attempt::{AttemptTask, Attempts};
 pub use laws::{
     lines_call_boards_that_are_there, lines_go_by_the_table, lines_keep_their_tenure,
     traces_go_line_by_line,

@@ -12,11 +12,12 @@ ghost use Rattle.vme_line_task.specs.Scripts.{HasItsMailbox, lines_at};
 ghost use Rattle.vme_line_task.specs.ReadBuffers.{line_read_len};
 ghost use Rattle.vme_line_task.specs.CurrentData.{line_datum, line_command};
 ghost use Rattle.vme_line_task.specs.Tables.{next_given};
-ghost use Rattle.vme_line_task.specs.Machine.{line_started_with, line_started, line_advance, line_to_do, line_given, attempts_again, attempts_left, IsLineBelow};
+ghost use Rattle.vme_line_task.specs.Machine.{line_started_with, line_started, line_advance, line_to_do, line_given, attempts_left, IsLineBelow};
 ghost use Rattle.vme_line_task.specs.declared.attempt.AttemptTask.TheVariants as tasks;
+ghost use Rattle.vme_line_task.specs.declared.task.LineTask.TheVariants.{Running};
 ghost use Rattle.vme_line_task.specs.Events.{call_of_todo, reply_in, IsTodoBelow};
 
-use crate::attempt::{AttemptTask, shared_retry, shared_step_by, shared_step_on, transfer_step_by};
+use crate::attempt::{AttemptTask, Attempts};
 use crate::reply::LineReplyRef;
 use crate::start::{attempt_of, transfer};
 use crate::todo::LineTodo;
@@ -28,12 +29,13 @@ use vme_memory::BoardCmd;
 use vme_script::Config;
 use vme_shared::LineReply;
 
-/// A line of a script that has been started: attempts, one of which is the current one.
+/// A line of a script that has been started.
 #[derive(Debug, Drop)]
-pub struct LineTask<'a> {
-    attempt: AttemptTask<'a>,
-    /// The number of attempts that are left, the current one among them; 0 for a refused line.
-    left: u32,
+pub enum LineTask<'a> {
+    /// The line's request is refused.
+    Refused(CycleFault),
+    /// Attempts at the line, one after another.
+    Running(Attempts<'a>),
 }
 
 impl<'a> LineTask<'a> {
@@ -78,7 +80,7 @@ impl<'a> LineTask<'a> {
         match line {
             Line::Bus(request) => match transfer(config, board, request, buffer) {
                 Ok(task) => transfer_line(task, tries),
-                Err(fault) => refused_line(fault),
+                Err(fault) => LineTask::Refused(fault),
             },
             Line::Local(cmd) => transfer_line(Task::local(board, cmd.copy()), tries),
             _ => LineTask::of_any(config, board, line, tries, buffer),
@@ -101,11 +103,11 @@ impl<'a> LineTask<'a> {
         ensures { result ≡ line_started_with config.now board tries line.now }
     {
         match attempt_of(config, board, line, buffer) {
-            Ok(attempt) => LineTask {
+            Ok(attempt) => LineTask::Running(Attempts {
                 attempt,
                 left: tries,
-            },
-            Err(fault) => refused_line(fault),
+            }),
+            Err(fault) => LineTask::Refused(fault),
         }
     }
 
@@ -133,20 +135,8 @@ impl<'a> LineTask<'a> {
         ensures begun { line_to_do self.new ≢ NotStarted }
         ensures below { (n : ℕ) → IsLineBelow n self.old → IsLineBelow n self.new }
     {
-        self.attempt.advance(given);
-        self.retry();
-    }
-
-    /// Begins another attempt, if the current one has ended with a reply that asks for another and
-    /// another is left.
-    fn retry(&mut self)
-        ensures task { self.new ≡ attempts_again self.old (line_to_do self.old) }
-        ensures begun { line_to_do self.old ≢ NotStarted → line_to_do self.new ≢ NotStarted }
-    {
-        match &mut self.attempt {
-            AttemptTask::Refused(_) | AttemptTask::Transfer(_) => {}
-            AttemptTask::Await(wait) => wait.retry(&mut self.left),
-            AttemptTask::Shared(task) => shared_retry(task, &mut self.left),
+        if let LineTask::Running(attempts) = self {
+            attempts.advance(given);
         }
     }
 
@@ -155,7 +145,10 @@ impl<'a> LineTask<'a> {
     pub fn event_ref(&self) -> Option<EventRef<'_>>
         ensures { option_map call_asked result ≡ call_in (line_to_do self.now) }
     {
-        self.attempt.event_ref()
+        let LineTask::Running(attempts) = self else {
+            return None;
+        };
+        attempts.attempt.event_ref()
     }
 
     /// Performs the next event on `core` for processor `who`, gives the line the reply and returns
@@ -169,11 +162,9 @@ impl<'a> LineTask<'a> {
         ensures below { (n : ℕ) → IsLineBelow n self.old → IsLineBelow n self.new }
         ensures ended { result ≡ ends_by_call line_to_do self.old self.new }
     {
-        match &mut self.attempt {
-            AttemptTask::Refused(_) => false,
-            AttemptTask::Transfer(task) => task.step_on(core, who),
-            AttemptTask::Await(wait) => wait.step_on(&mut self.left, core, who),
-            AttemptTask::Shared(task) => shared_step_on(task, &mut self.left, core, who),
+        match self {
+            LineTask::Refused(_) => false,
+            LineTask::Running(attempts) => attempts.step_on(core, who),
         }
     }
 
@@ -193,11 +184,9 @@ impl<'a> LineTask<'a> {
         ensures ended { IfOk result (λ ended. ended ≡ ends_by_call line_to_do self.old self.new) }
         ensures unchanged { IfErr result (λ _. self.new ≡ self.old) }
     {
-        match &mut self.attempt {
-            AttemptTask::Refused(_) => Ok(false),
-            AttemptTask::Transfer(task) => transfer_step_by(task, caller, with),
-            AttemptTask::Await(wait) => wait.step_by(&mut self.left, caller, with),
-            AttemptTask::Shared(task) => shared_step_by(task, &mut self.left, caller, with),
+        match self {
+            LineTask::Refused(_) => Ok(false),
+            LineTask::Running(attempts) => attempts.step_by(caller, with),
         }
     }
 
@@ -206,21 +195,30 @@ impl<'a> LineTask<'a> {
     pub fn current_datum(&self) -> Option<CurrentDatum<'_>>
         ensures { result ≡ line_datum self.now }
     {
-        self.attempt.current_datum()
+        match self {
+            LineTask::Refused(_) => None,
+            LineTask::Running(attempts) => attempts.attempt.current_datum(),
+        }
     }
 
     /// Returns a copy of the line's command to the local port, if it is one.
     pub fn local_command(&self) -> Option<BoardCmd>
         ensures { result ≡ line_command self.now }
     {
-        self.attempt.local_command()
+        match self {
+            LineTask::Refused(_) => None,
+            LineTask::Running(attempts) => attempts.attempt.local_command(),
+        }
     }
 
     /// Returns whether the line has ended. It reads less memory than `reply`.
     pub fn is_finished(&self) -> bool
         ensures { result ≡ is_some (result_in (line_to_do self.now)) }
     {
-        self.attempt.is_finished()
+        match self {
+            LineTask::Refused(_) => true,
+            LineTask::Running(attempts) => attempts.attempt.is_finished(),
+        }
     }
 
     /// Returns the number of attempts that are left, the current one among them. If it falls with a
@@ -230,14 +228,20 @@ impl<'a> LineTask<'a> {
     pub fn attempts_left(&self) -> u32
         ensures { result ≡ attempts_left self.now }
     {
-        self.left
+        match self {
+            LineTask::Refused(_) => 0,
+            LineTask::Running(attempts) => attempts.left,
+        }
     }
 
     /// Returns the line's reply by reference, if the line has ended.
     pub fn reply(&self) -> Option<LineReplyRef<'_>>
         ensures { option_map reply_in result ≡ result_in (line_to_do self.now) }
     {
-        self.attempt.reply()
+        match self {
+            LineTask::Refused(fault) => Some(LineReplyRef::Refused(*fault)),
+            LineTask::Running(attempts) => attempts.attempt.reply(),
+        }
     }
 
     /// Consumes the line and returns its reply, if it has ended. The bytes that were read are moved,
@@ -245,28 +249,21 @@ impl<'a> LineTask<'a> {
     pub fn into_reply(self) -> Option<LineReply>
         ensures { result ≡ result_in (line_to_do self.entry) }
     {
-        self.attempt.into_reply()
+        match self {
+            LineTask::Refused(fault) => Some(LineReply::Refused(fault)),
+            LineTask::Running(attempts) => attempts.attempt.into_reply(),
+        }
     }
 }
 
 /// Returns the line of a transfer or a local command, which is attempted once, whatever `left` is.
 fn transfer_line(task: Task<'_>, left: u32) -> LineTask<'_>
-    ensures { result ≡ record { attempt = tasks.Transfer task.entry; left = left } }
+    ensures { result ≡ Running (record { attempt = tasks.Transfer task.entry; left = left }) }
 {
-    LineTask {
+    LineTask::Running(Attempts {
         attempt: AttemptTask::Transfer(task),
         left,
-    }
-}
-
-/// Returns the line of a refused request, which has ended.
-fn refused_line<'a>(fault: CycleFault) -> LineTask<'a>
-    ensures { result ≡ record { attempt = tasks.Refused fault; left = 0 } }
-{
-    LineTask {
-        attempt: AttemptTask::Refused(fault),
-        left: 0,
-    }
+    })
 }
 
 /// Returns the number of lines of the script of a board's processor that request something.

@@ -10,7 +10,7 @@ ghost use Rattle.vme_master.specs.CurrentData.{task_datum};
 ghost use Rattle.vme_master.specs.Machine.{advance, to_do};
 ghost use Rattle.vme_line_task.specs.Tables.{awaiting_next, next_wants_retry};
 ghost use Rattle.vme_line_task.specs.Attempts.{read_attempts};
-ghost use Rattle.vme_line_task.specs.Machine.{attempts_again, line_advance, line_to_do};
+ghost use Rattle.vme_line_task.specs.Machine.{attempts_again, attempts_advance, attempts_to_do};
 ghost use Rattle.vme_line_task.specs.Events.{reply_in};
 
 use crate::reply::LineReplyRef;
@@ -50,9 +50,9 @@ impl<'a> AwaitTask<'a> {
     pub(crate) fn step_on(&mut self, left: &mut u32, core: &mut Core, who: usize) -> bool
         requires who { who < process_count core.old }
         requires can { CanMake core.old (call_in (to_do self.old.task)) }
-        ensures step { AdvancesOn line_to_do line_advance who core.old core.new
+        ensures step { AdvancesOn attempts_to_do attempts_advance who core.old core.new
             (read_attempts self.old left.old) (read_attempts self.new left.new) }
-        ensures ended { result ≡ ends_by_call line_to_do (read_attempts self.old left.old) (read_attempts self.new left.new) }
+        ensures ended { result ≡ ends_by_call attempts_to_do (read_attempts self.old left.old) (read_attempts self.new left.new) }
     {
         if !self.task.step_on(core, who) {
             return false;
@@ -72,10 +72,10 @@ impl<'a> AwaitTask<'a> {
         with: &E,
     ) -> Result<bool, C::Fault>
         requires { IfSome (call_in (to_do self.old.task)) (C.can with.now caller.old) }
-        ensures step { IfOk result (λ _. AdvancesBy C.performs line_to_do line_advance caller.old caller.new
+        ensures step { IfOk result (λ _. AdvancesBy C.performs attempts_to_do attempts_advance caller.old caller.new
             (read_attempts self.old left.old) (read_attempts self.new left.new)) }
         ensures ended { IfOk result (λ ended.
-            ended ≡ ends_by_call line_to_do (read_attempts self.old left.old) (read_attempts self.new left.new)) }
+            ended ≡ ends_by_call attempts_to_do (read_attempts self.old left.old) (read_attempts self.new left.new)) }
         ensures unchanged { IfErr result (λ _. read_attempts self.new left.new ≡ read_attempts self.old left.old) }
     {
         if !self.task.step_by(caller, with)? {
@@ -89,9 +89,9 @@ impl<'a> AwaitTask<'a> {
     /// left.
     pub(crate) fn retry(&mut self, left: &mut u32)
         ensures attempts { read_attempts self.new left.new ≡
-            attempts_again (read_attempts self.old left.old) (line_to_do (read_attempts self.old left.old)) }
-        ensures begun { line_to_do (read_attempts self.old left.old) ≢ NotStarted →
-            line_to_do (read_attempts self.new left.new) ≢ NotStarted }
+            attempts_again (read_attempts self.old left.old) (attempts_to_do (read_attempts self.old left.old)) }
+        ensures begun { attempts_to_do (read_attempts self.old left.old) ≢ NotStarted →
+            attempts_to_do (read_attempts self.new left.new) ≢ NotStarted }
     {
         if *left > 1 && self.wants_retry() {
             *left -= 1;

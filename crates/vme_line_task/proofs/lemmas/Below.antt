@@ -29,7 +29,6 @@ use Rattle.vme_grammar.specs.declared.line.Line.TheVariants as lines
 use Rattle.vme_script.specs.Boards.{entries_of}
 use Rattle.vme_script.specs.Configurations.{Configuration}
 use Rattle.vme_line_task.specs.declared.task.LineTask.{LineTask}
-use Rattle.vme_line_task.specs.declared.attempt.AttemptTask.{AttemptTask}
 use Rattle.vme_line_task.specs.declared.todo.LineTodo.{LineTodo}
 use Rattle.vme_line_task.specs.declared.todo.LineTodo.TheVariants as todos
 use Rattle.vme_line_task.specs.Scripts.{Attempt, Transferring, Awaiting, Sharing, slot_at, level_at, mailbox_at, transfer_job, request_attempt, unless_refused, shared_job, shared_attempt, line_attempt}
@@ -155,14 +154,6 @@ made_below n who before after task new it below = by (call_in (line_to_do task))
     by (Some call) step =
         subst (IsLineBelow n) (sym (ap (λ (r : Machine × LineTask). r.1) step))
         (advance_below n task (Some (machine_step before who call).1) below)
-
--- so does a line whose attempt is this one
-pub made_below_by : (n who : ℕ) (before after : Machine) (task new : LineTask) (attempt : AttemptTask) → task.attempt ≡ attempt
-    → AdvancesOn line_to_do line_advance who before after (record { attempt = attempt; left = task.left }) new
-    → IsLineBelow n task → IsLineBelow n new
-made_below_by n who before after task new attempt is it below =
-    let with_attempt : AttemptTask → LineTask = λ a. record { attempt = a; left = task.left } in
-    made_below n who before after (with_attempt attempt) new it (subst (λ (a : AttemptTask). IsLineBelow n (with_attempt a)) is below)
 
 -- a line's next call goes to the arbiter or to one of the first n boards
 pub calls_below : (n : ℕ) (task : LineTask) (call : Call) → IsLineBelow n task → line_to_do task ≡ Invokes call → IsCallBelow n call

@@ -16,12 +16,14 @@ use Rattle.vme_shared.proofs.lemmas.Stands.{by_the_given as by_the_steps, given_
 use Rattle.vme_grammar.specs.declared.line.Line.{Line}
 use Rattle.vme_script.specs.Configurations.{Configuration}
 use Rattle.vme_line_task.specs.declared.task.LineTask.{LineTask}
+use Rattle.vme_line_task.specs.declared.task.LineTask.TheVariants.{Refused, Running}
+use Rattle.vme_line_task.specs.declared.attempt.Attempts.{Attempts}
 use Rattle.vme_line_task.specs.declared.attempt.AttemptTask.{AttemptTask}
 use Rattle.vme_line_task.specs.declared.attempt.AttemptTask.TheVariants as tasks
 use Rattle.vme_line_task.specs.Scripts.{Attempt, Transferring, Awaiting, Sharing, line_attempt}
 use Rattle.vme_line_task.specs.Tables as table
 use Rattle.vme_line_task.specs.Tables.{transferring_next, awaiting_next, sharing_next, attempt_next, next_wants_retry, next_attempt, attempts_of, lawful_next, next_given_with, next_given, line_next, given_of}
-use Rattle.vme_line_task.specs.Machine.{attempt_fresh, attempt_anew, attempt_advance, attempt_to_do, attempts_again, line_fresh, line_started, line_advance, line_to_do, line_advanced, line_given_with, line_given, line_after}
+use Rattle.vme_line_task.specs.Machine.{attempt_fresh, attempt_anew, attempt_advance, attempt_to_do, attempts_again, attempts_advance, line_fresh, line_started, line_advance, line_to_do, line_advanced, line_given_with, line_given, line_after}
 
 -- the task of an attempt after all that it was given
 abbrev attempt_task : Attempt → Inputs → AttemptTask
@@ -55,22 +57,22 @@ task_next (Transferring job) given = ap transferring_next (by_the_table job give
 task_next (Awaiting job want) given = ap (awaiting_next want) (by_the_table job given)
 task_next (Sharing s) given = ap sharing_next (by_the_steps s given)
 
--- the line of the machine, by the attempts of the table
-abbrev tasks_of : Attempt → table.AttemptsGiven → LineTask
+-- the attempts of the machine, by those of the table
+abbrev tasks_of : Attempt → table.AttemptsGiven → Attempts
 tasks_of a made = record { attempt = attempt_task a made.given; left = made.left }
 
 -- the machine begins another attempt exactly if the table does
 same_again : (a : Attempt) (made : table.AttemptsGiven) (next : NextStep LineReply) → attempts_again (tasks_of a made) next ≡ tasks_of a (next_attempt made next)
 same_again a made next =
     elim (cases_Bool (next_wants_retry next && nat_lt 1 made.left)) [
-      | inl more ↦ rw more (ap (λ (t : AttemptTask). let one : LineTask = record { attempt = t; left = made.left - 1 } in one)
+      | inl more ↦ rw more (ap (λ (t : AttemptTask). let one : Attempts = record { attempt = t; left = made.left - 1 } in one)
           (ap (λ (t : AttemptTask). attempt_advance t None) (task_anew a made.given) ∙ task_advance a [] None))
       | inr last ↦ rw last refl
     ]
 
 -- the attempts of machine and table agree after each reply
 same_attempts : (a : Attempt) (tries : ℕ) (given : Inputs) (last : Option EventReply)
-    → line_advance (tasks_of a (attempts_of a tries given)) last ≡ tasks_of a (attempts_of a tries (last ∷ given))
+    → attempts_advance (tasks_of a (attempts_of a tries given)) last ≡ tasks_of a (attempts_of a tries (last ∷ given))
 same_attempts a tries given last =
     let made = attempts_of a tries given in
     let now : table.AttemptsGiven = record { given = last ∷ made.given; left = made.left } in
@@ -80,13 +82,13 @@ same_attempts a tries given last =
 
 -- the machine's line is that of the table's attempts
 attempts_given : (a : Attempt) (tries : ℕ) (given : Inputs)
-    → line_advanced (line_fresh tries (Ok a)) given ≡ tasks_of a (attempts_of a tries given)
-attempts_given a tries [] = ap (λ (t : AttemptTask). let one : LineTask = record { attempt = t; left = tries } in one) (task_fresh a)
+    → line_advanced (line_fresh tries (Ok a)) given ≡ Running (tasks_of a (attempts_of a tries given))
+attempts_given a tries [] = ap (λ (t : AttemptTask). Running (record { attempt = t; left = tries })) (task_fresh a)
 attempts_given a tries (last ∷ before) =
-    ap (λ (t : LineTask). line_advance t last) (attempts_given a tries before) ∙ same_attempts a tries before last
+    ap (λ (t : LineTask). line_advance t last) (attempts_given a tries before) ∙ ap Running (same_attempts a tries before last)
 
 -- a line that is refused stays refused, whatever it is given
-refused_given : (tries : ℕ) (fault : CycleFault) (given : Inputs) → line_advanced (line_fresh tries (Err fault)) given ≡ record { attempt = tasks.Refused fault; left = 0 }
+refused_given : (tries : ℕ) (fault : CycleFault) (given : Inputs) → line_advanced (line_fresh tries (Err fault)) given ≡ Refused fault
 refused_given tries fault [] = refl
 refused_given tries fault (last ∷ before) = ap (λ (t : LineTask). line_advance t last) (refused_given tries fault before)
 

@@ -32,6 +32,8 @@ use Rattle.vme_shared.specs.Machine.{stage_fresh, stage_called, current_stepped,
 use Rattle.vme_grammar.specs.declared.line.Line.{Line}
 use Rattle.vme_script.specs.Configurations.{Configuration}
 use Rattle.vme_line_task.specs.declared.task.LineTask.{LineTask}
+use Rattle.vme_line_task.specs.declared.task.LineTask.TheVariants.{Refused, Running}
+use Rattle.vme_line_task.specs.declared.attempt.Attempts.{Attempts}
 use Rattle.vme_line_task.specs.declared.attempt.AttemptTask.{AttemptTask}
 use Rattle.vme_line_task.specs.declared.attempt.AttemptTask.TheVariants as tasks
 use Rattle.vme_line_task.specs.Scripts.{Attempt, Awaiting, Sharing, line_attempt}
@@ -162,20 +164,18 @@ current_after_due s (currents.Finished end) given due = tt
 
 -- an attempt after a reply
 attempt_due : (a : AttemptTask) (given : Option EventReply) → IsDue (attempt_view a) → IsDue (attempt_view (attempt_advance a given))
-attempt_due (tasks.Refused fault) given due = tt
 attempt_due (tasks.Transfer t) given due = advance_due t given due
 attempt_due (tasks.Await w) given due = advance_due w.task given due
 attempt_due (tasks.Shared v) given due = current_after_due v.job v.current given due
 
 -- an attempt put back before its first call
 anew_due : (a : AttemptTask) → IsDue (attempt_view (attempt_anew a))
-anew_due (tasks.Refused fault) = tt
 anew_due (tasks.Transfer t) = fresh_due t.job
 anew_due (tasks.Await w) = fresh_due w.task.job
 anew_due (tasks.Shared v) = stage_due (first_stage v.job.request) (stage_job v.job (first_stage v.job.request))
 
 -- the attempts after one has ended
-again_due : (a : LineTask) (next : NextStep LineReply) → IsDue (attempt_view a.attempt) → IsDue (attempt_view (attempts_again a next).attempt)
+again_due : (a : Attempts) (next : NextStep LineReply) → IsDue (attempt_view a.attempt) → IsDue (attempt_view (attempts_again a next).attempt)
 again_due a next due =
     elim (cases_Bool (next_wants_retry next && nat_lt 1 a.left)) [
       | inl more ↦ rw more (attempt_due (attempt_anew a.attempt) None (anew_due a.attempt))
@@ -184,7 +184,8 @@ again_due a next due =
 
 -- a line after a reply
 line_due : (task : LineTask) (given : Option EventReply) → IsDue (line_view task) → IsDue (line_view (line_advance task given))
-line_due a given due =
+line_due (Refused fault) given due = tt
+line_due (Running a) given due =
     again_due (record { attempt = attempt_advance a.attempt given; left = a.left }) (attempt_to_do (attempt_advance a.attempt given))
     (attempt_due a.attempt given due)
 

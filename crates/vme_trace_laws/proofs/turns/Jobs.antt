@@ -29,6 +29,8 @@ use Rattle.vme_grammar.specs.declared.line.Line.{Line}
 use Rattle.vme_grammar.specs.declared.line.Line.TheVariants as lines
 use Rattle.vme_script.specs.Configurations.{Configuration}
 use Rattle.vme_line_task.specs.declared.task.LineTask.{LineTask}
+use Rattle.vme_line_task.specs.declared.task.LineTask.TheVariants.{Refused, Running}
+use Rattle.vme_line_task.specs.declared.attempt.Attempts.{Attempts}
 use Rattle.vme_line_task.specs.declared.attempt.AttemptTask.{AttemptTask}
 use Rattle.vme_line_task.specs.declared.attempt.AttemptTask.TheVariants as tasks
 use Rattle.vme_line_task.specs.Scripts.{Attempt, Transferring, Awaiting, Sharing, slot_at, level_at, mailbox_at, request_attempt, unless_refused, shared_job, shared_attempt, line_attempt}
@@ -55,14 +57,14 @@ module _ (board slot level : ℕ) where
 
   -- the attempt at a line is of this slot and level, or of this board's local port
   abbrev pub IsOwnAttempt : AttemptTask → Type 0
-  IsOwnAttempt (tasks.Refused fault) = Unit {0}
   IsOwnAttempt (tasks.Transfer t) = IsOwnJob t.job
   IsOwnAttempt (tasks.Await w) = IsOwnTransfer w.task.job
   IsOwnAttempt (tasks.Shared v) = (v.job.slot ≡ slot) × (v.job.level ≡ level) × IsOwnCurrent v.current
 
   -- the task of a line is of this slot and level, or of this board's local port
   abbrev pub IsOwnTask : LineTask → Type 0
-  IsOwnTask task = IsOwnAttempt task.attempt
+  IsOwnTask (Refused fault) = Unit {0}
+  IsOwnTask (Running a) = IsOwnAttempt a.attempt
 
   -- a stage's transfer, if it is not refused, is of this slot and level
   abbrev IsOwnStage : Result Job CycleFault → Type 0
@@ -107,7 +109,6 @@ module _ (board slot level : ℕ) where
 
   -- an attempt after one more reply, or an absent one
   attempt_advance_own : (a : AttemptTask) (last : Option EventReply) → IsOwnAttempt a → IsOwnAttempt (attempt_advance a last)
-  attempt_advance_own (tasks.Refused fault) last own = tt
   attempt_advance_own (tasks.Transfer t) last own = subst IsOwnJob (sym (job_stays t t.phase last)) own
   attempt_advance_own (tasks.Await w) last own = subst IsOwnTransfer (sym (job_stays w.task w.task.phase last)) own
   attempt_advance_own (tasks.Shared v) last own = (own.0, own.1, after_own v.job v.current last own.0 own.1 own.2)
@@ -120,13 +121,12 @@ module _ (board slot level : ℕ) where
 
   -- an attempt put back before its first call
   attempt_anew_own : (a : AttemptTask) → IsOwnAttempt a → IsOwnAttempt (attempt_anew a)
-  attempt_anew_own (tasks.Refused fault) own = tt
   attempt_anew_own (tasks.Transfer t) own = own
   attempt_anew_own (tasks.Await w) own = own
   attempt_anew_own (tasks.Shared v) own = (own.0, own.1, first_own v.job own.0 own.1)
 
   -- the attempts after one has ended
-  again_own : (a : LineTask) (next : NextStep LineReply) → IsOwnAttempt a.attempt → IsOwnAttempt (attempts_again a next).attempt
+  again_own : (a : Attempts) (next : NextStep LineReply) → IsOwnAttempt a.attempt → IsOwnAttempt (attempts_again a next).attempt
   again_own a next own =
       elim (cases_Bool (next_wants_retry next && nat_lt 1 a.left)) [
         | inl more ↦ rw more (attempt_advance_own (attempt_anew a.attempt) None (attempt_anew_own a.attempt own))
@@ -135,7 +135,8 @@ module _ (board slot level : ℕ) where
 
   -- a line after one more reply, or an absent one
   advance_own : (task : LineTask) (last : Option EventReply) → IsOwnTask task → IsOwnTask (line_advance task last)
-  advance_own a last own =
+  advance_own (Refused fault) last own = tt
+  advance_own (Running a) last own =
       again_own (record { attempt = attempt_advance a.attempt last; left = a.left }) (attempt_to_do (attempt_advance a.attempt last))
       (attempt_advance_own a.attempt last own)
 
@@ -182,14 +183,14 @@ module _ (board slot level : ℕ) where
 
   -- the transfer or the local command of an attempt
   own_attempt : (a : AttemptTask) → IsOwnAttempt a → IsOwnView (attempt_view a)
-  own_attempt (tasks.Refused fault) own = tt
   own_attempt (tasks.Transfer t) own = own
   own_attempt (tasks.Await w) own = own_transfer w.task.job own
   own_attempt (tasks.Shared v) own = own_current v.current own.2
 
   -- the transfer or the local command of a line
   pub own_view : (task : LineTask) → IsOwnTask task → IsOwnView (line_view task)
-  own_view task own = own_attempt task.attempt own
+  own_view (Refused fault) own = tt
+  own_view (Running a) own = own_attempt a.attempt own
 
 -- the attempt of a processor's request to a lock or a mailbox is its own
 shared_own : (config : Configuration) (board : ℕ) (request : SharedRequest)

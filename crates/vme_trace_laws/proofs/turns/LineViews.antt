@@ -30,6 +30,8 @@ use Rattle.vme_shared.specs.Machine.{stage_fresh, stage_called, current_stepped,
 use Rattle.vme_grammar.specs.declared.line.Line.{Line}
 use Rattle.vme_script.specs.Configurations.{Configuration}
 use Rattle.vme_line_task.specs.declared.task.LineTask.{LineTask}
+use Rattle.vme_line_task.specs.declared.task.LineTask.TheVariants.{Refused, Running}
+use Rattle.vme_line_task.specs.declared.attempt.Attempts.{Attempts}
 use Rattle.vme_line_task.specs.declared.attempt.AttemptTask.{AttemptTask}
 use Rattle.vme_line_task.specs.declared.attempt.AttemptTask.TheVariants as tasks
 use Rattle.vme_line_task.specs.Scripts.{Attempt, Transferring, Awaiting, Sharing, line_attempt}
@@ -77,14 +79,14 @@ current_ended (currents.Finished end) answer ends = refl
 
 -- an attempt that has ended does not hold the bus
 attempt_ended : (a : AttemptTask) (answer : LineReply) → attempt_to_do a ≡ Returns answer → holding (attempt_view a) ≡ false
-attempt_ended (tasks.Refused fault) answer ends = refl
 attempt_ended (tasks.Transfer t) answer ends = task_ended answers.Transfer t answer ends
 attempt_ended (tasks.Await w) answer ends = task_ended (await_reply w.want.items) w.task answer ends
 attempt_ended (tasks.Shared v) answer ends = current_ended v.current answer ends
 
 -- a line that has ended does not hold the bus
 pub line_ended : (task : LineTask) (answer : LineReply) → line_to_do task ≡ Returns answer → holding (line_view task) ≡ false
-line_ended task answer ends = attempt_ended task.attempt answer ends
+line_ended (Refused fault) answer ends = refl
+line_ended (Running a) answer ends = attempt_ended a.attempt answer ends
 
 -- a stage after its first call does not hold the bus
 called_idle : (stage : Stage) (job : Result Job CycleFault) → holding (current_view (stage_called stage job)) ≡ false
@@ -113,7 +115,6 @@ current_after_like s (currents.Finished end) given = like_same None
 
 -- an attempt after a reply is like its transfer after it
 attempt_like : (a : AttemptTask) (given : Option EventReply) → IsLike (attempt_view (attempt_advance a given)) (view_after given (attempt_view a))
-attempt_like (tasks.Refused fault) given = like_same None
 attempt_like (tasks.Transfer t) given = like_same (Some (advance t given))
 attempt_like (tasks.Await w) given = like_same (Some (advance w.task given))
 attempt_like (tasks.Shared v) given = current_after_like v.job v.current given
@@ -125,13 +126,12 @@ first_idle s stage (Err fault) = refl
 
 -- an attempt that has just begun anew does not hold the bus
 anew_idle : (a : AttemptTask) → holding (view_after None (attempt_view (attempt_anew a))) ≡ false
-anew_idle (tasks.Refused fault) = refl
 anew_idle (tasks.Transfer t) = begun_idle t.job
 anew_idle (tasks.Await w) = begun_idle w.task.job
 anew_idle (tasks.Shared v) = first_idle v.job (first_stage v.job.request) (stage_job v.job (first_stage v.job.request))
 
 -- the attempts after one has ended are like it
-again_like : (a : LineTask) (next : NextStep LineReply) → attempt_to_do a.attempt ≡ next → IsLike (attempt_view (attempts_again a next).attempt) (attempt_view a.attempt)
+again_like : (a : Attempts) (next : NextStep LineReply) → attempt_to_do a.attempt ≡ next → IsLike (attempt_view (attempts_again a next).attempt) (attempt_view a.attempt)
 again_like a NotStarted is = like_same (attempt_view a.attempt)
 again_like a (Invokes call) is = like_same (attempt_view a.attempt)
 again_like a (Returns answer) is =
@@ -144,9 +144,10 @@ again_like a (Returns answer) is =
 
 -- a line after a reply is like its transfer after it
 pub line_like : (task : LineTask) (given : Option EventReply) → IsLike (line_view (line_advance task given)) (view_after given (line_view task))
-line_like a given =
-    let next : LineTask = record { attempt = attempt_advance a.attempt given; left = a.left } in
-    like_on (line_view (line_advance a given)) (attempt_view next.attempt) (view_after given (line_view a))
+line_like (Refused fault) given = like_same None
+line_like (Running a) given =
+    let next : Attempts = record { attempt = attempt_advance a.attempt given; left = a.left } in
+    like_on (line_view (line_advance (Running a) given)) (attempt_view next.attempt) (view_after given (line_view (Running a)))
     (again_like next (attempt_to_do next.attempt) refl) (attempt_like a.attempt given)
 
 -- an attempt that has just begun does not hold the bus
@@ -174,14 +175,14 @@ current_makes (currents.Finished end) call made = absurd cc
 
 -- the call of an attempt is that of its transfer or local command
 attempt_makes : (a : AttemptTask) (call : Call) → attempt_to_do a ≡ Invokes call → (t : TaskView) × (attempt_view a ≡ Some t) × (to_do t ≡ Invokes call)
-attempt_makes (tasks.Refused fault) call made = absurd cc
 attempt_makes (tasks.Transfer t) call made = (t, refl, transferring_makes (to_do t) call made)
 attempt_makes (tasks.Await w) call made = (w.task, refl, waits_makes w.want.items (to_do w.task) call made)
 attempt_makes (tasks.Shared v) call made = current_makes v.current call made
 
 -- the call of a line is that of its transfer or local command
 pub line_makes : (task : LineTask) (call : Call) → line_to_do task ≡ Invokes call → (t : TaskView) × (line_view task ≡ Some t) × (to_do t ≡ Invokes call)
-line_makes task call made = attempt_makes task.attempt call made
+line_makes (Refused fault) call made = absurd cc
+line_makes (Running a) call made = attempt_makes a.attempt call made
 
 -- the datum of a lock or a mailbox
 current_datum : (current : CurrentTransfer) → transfer_datum current ≡ option_and_then task_datum (current_view current)
@@ -190,11 +191,11 @@ current_datum (currents.Finished end) = refl
 
 -- the datum of an attempt
 attempt_datum_of : (a : AttemptTask) → attempt_datum a ≡ option_and_then task_datum (attempt_view a)
-attempt_datum_of (tasks.Refused fault) = refl
 attempt_datum_of (tasks.Transfer t) = refl
 attempt_datum_of (tasks.Await w) = refl
 attempt_datum_of (tasks.Shared v) = current_datum v.current
 
 -- the datum of a line is that of its transfer
 pub line_datum_of : (task : LineTask) → line_datum task ≡ option_and_then task_datum (line_view task)
-line_datum_of task = attempt_datum_of task.attempt
+line_datum_of (Refused fault) = refl
+line_datum_of (Running a) = attempt_datum_of a.attempt

@@ -30,6 +30,7 @@ use Rattle.vme_grammar.specs.declared.line.Line.{Line}
 use Rattle.vme_script.specs.Configurations.{Configuration}
 use Rattle.vme_master.specs.Tables.{Inputs}
 use Rattle.vme_line_task.specs.declared.task.LineTask.{LineTask}
+use Rattle.vme_line_task.specs.declared.task.LineTask.TheVariants.{Refused, Running}
 use Rattle.vme_line_task.specs.declared.attempt.AttemptTask.{AttemptTask}
 use Rattle.vme_line_task.specs.declared.attempt.AttemptTask.TheVariants as tasks
 use Rattle.vme_line_task.specs.Scripts.{slot_at, level_at}
@@ -90,40 +91,40 @@ module _ (board slot level : ℕ) where
   -- the call of an attempt at a transfer or a local command
   transfer_shown : (left : ℕ) (job : Job) (phase : Phase) (read : List ℕ) (call : Call) → IsOwnJob board slot level job
       → job_next job phase read ≡ Invokes call
-      → IsShown (record { attempt = tasks.Transfer (record { job = job; phase = phase; read = read }); left = left }) call
+      → IsShown (Running (record { attempt = tasks.Transfer (record { job = job; phase = phase; read = read }); left = left })) call
   transfer_shown left (Bus job) phase read call own made =
-      let task : LineTask = record { attempt = tasks.Transfer (record { job = Bus job; phase = phase; read = read }); left = left } in
+      let task : LineTask = Running (record { attempt = tasks.Transfer (record { job = Bus job; phase = phase; read = read }); left = left }) in
       bus_shown task job phase read call own.0 own.1 refl made
   transfer_shown left (Local job) phase read call own made =
-      let task : LineTask = record { attempt = tasks.Transfer (record { job = Local job; phase = phase; read = read }); left = left } in
+      let task : LineTask = Running (record { attempt = tasks.Transfer (record { job = Local job; phase = phase; read = read }); left = left }) in
       local_shown task job phase read call own refl refl made
 
   -- the call of a read that waits for bytes
   await_shown : (left : ℕ) (job : Job) (phase : Phase) (read : List ℕ) (want : ArrayVec ℕ) (call : Call) → IsOwnTransfer board slot level job
       → job_next job phase read ≡ Invokes call
-      → IsShown (record { attempt = tasks.Await (record { task = record { job = job; phase = phase; read = read }; want = want }); left = left }) call
+      → IsShown (Running (record { attempt = tasks.Await (record { task = record { job = job; phase = phase; read = read }; want = want }); left = left })) call
   await_shown left (Bus job) phase read want call own made =
-      let task : LineTask = record { attempt = tasks.Await (record { task = record { job = Bus job; phase = phase; read = read }; want = want }); left = left } in
+      let task : LineTask = Running (record { attempt = tasks.Await (record { task = record { job = Bus job; phase = phase; read = read }; want = want }); left = left }) in
       bus_shown task job phase read call own.0 own.1 refl made
   await_shown left (Local job) phase read want call own made = absurd own
 
   -- the call of a lock or a mailbox
   current_shown : (left : ℕ) (shared : SharedJob) (stage : Stage) (job : Job) (phase : Phase) (read : List ℕ) (call : Call) → IsOwnTransfer board slot level job
       → job_next job phase read ≡ Invokes call
-      → IsShown (record {
+      → IsShown (Running (record {
         attempt = tasks.Shared (record { job = shared; current = currents.Running stage (record { job = job; phase = phase; read = read }) });
         left = left;
-      }) call
+      })) call
   current_shown left shared stage (Bus job) phase read call own made =
       let current = currents.Running stage (record { job = Bus job; phase = phase; read = read }) in
-      let task : LineTask = record { attempt = tasks.Shared (record { job = shared; current = current }); left = left } in
+      let task : LineTask = Running (record { attempt = tasks.Shared (record { job = shared; current = current }); left = left }) in
       bus_shown task job phase read call own.0 own.1 refl made
   current_shown left shared stage (Local job) phase read call own made = absurd own
 
   -- the call of a lock or a mailbox, if it has not ended
   shared_shown : (left : ℕ) (shared : SharedJob) (current : CurrentTransfer) (call : Call) → IsOwnCurrent board slot level current
       → sharing_next (current_to_do current) ≡ Invokes call
-      → IsShown (record { attempt = tasks.Shared (record { job = shared; current = current }); left = left }) call
+      → IsShown (Running (record { attempt = tasks.Shared (record { job = shared; current = current }); left = left })) call
   shared_shown left shared (currents.Running stage t) call own made =
       current_shown left shared stage t.job t.phase t.read call own
       (map_makes (λ outcome. outcomes.Denied) (to_do t) call (shares_makes (task_shown (to_do t)) call made))
@@ -131,8 +132,7 @@ module _ (board slot level : ℕ) where
 
   -- the call of an attempt
   attempt_shown : (left : ℕ) (a : AttemptTask) (call : Call) → IsOwnAttempt board slot level a → attempt_to_do a ≡ Invokes call
-      → IsShown (record { attempt = a; left = left }) call
-  attempt_shown left (tasks.Refused fault) call own made = absurd cc
+      → IsShown (Running (record { attempt = a; left = left })) call
   attempt_shown left (tasks.Transfer t) call own made = transfer_shown left t.job t.phase t.read call own (transferring_makes (to_do t) call made)
   attempt_shown left (tasks.Await w) call own made =
       await_shown left w.task.job w.task.phase w.task.read w.want call own (waits_makes w.want.items (to_do w.task) call made)
@@ -140,7 +140,8 @@ module _ (board slot level : ℕ) where
 
   -- the call of a line
   task_shown_as : (task : LineTask) (call : Call) → IsOwnTask board slot level task → line_to_do task ≡ Invokes call → IsShown task call
-  task_shown_as task call own made = attempt_shown task.left task.attempt call own made
+  task_shown_as (Refused fault) call own made = absurd cc
+  task_shown_as (Running a) call own made = attempt_shown a.left a.attempt call own made
 
 -- the processor of a script state is among those of all
 pub processors_get : (config : Configuration) (from b place : ℕ) (script_states : List ScriptState) → place ≡ from + b

@@ -11,6 +11,7 @@ use Rattle.vme_master.specs.Machine.{TaskView, advance}
 use Rattle.vme_shared.specs.declared.current.CurrentTransfer.{CurrentTransfer}
 use Rattle.vme_shared.specs.declared.current.CurrentTransfer.TheVariants as currents
 use Rattle.vme_line_task.specs.declared.task.LineTask.{LineTask}
+use Rattle.vme_line_task.specs.declared.task.LineTask.TheVariants.{Refused, Running}
 use Rattle.vme_line_task.specs.declared.attempt.AttemptTask.{AttemptTask}
 use Rattle.vme_line_task.specs.declared.attempt.AttemptTask.TheVariants as tasks
 
@@ -21,14 +22,14 @@ current_view (currents.Finished end) = None
 
 -- the task of an attempt
 abbrev pub attempt_view : AttemptTask → Option TaskView
-attempt_view (tasks.Refused fault) = None
 attempt_view (tasks.Transfer t) = Some t
 attempt_view (tasks.Await w) = Some w.task
 attempt_view (tasks.Shared v) = current_view v.current
 
 -- the transfer or the local command that a line's task is at, if there is one
 abbrev pub line_view : LineTask → Option TaskView
-line_view task = attempt_view task.attempt
+line_view (Refused fault) = None
+line_view (Running a) = attempt_view a.attempt
 
 -- the same after a reply, or an absent one
 abbrev pub view_after : Option EventReply → Option TaskView → Option TaskView
