@@ -103,7 +103,7 @@ line_advanced task (last ∷ before) = line_advance (line_advanced task before) 
 abbrev pub line_given_with : Configuration → ℕ → ℕ → Line → Inputs → LineTask
 line_given_with config board tries line given = line_advanced (line_started_with config board tries line) given
 
--- the same with as many attempts as the configuration has
+-- a line of a board's processor with as many attempts as the configuration has, after all that it was given
 abbrev pub line_given : Configuration → ℕ → Line → Inputs → LineTask
 line_given config board line given = line_advanced (line_started config board line) given
 

@@ -85,7 +85,7 @@ lawful_next tries (Err fault) given = Returns (Refused fault)
 abbrev pub next_given_with : Configuration → ℕ → ℕ → Line → Inputs → NextStep LineReply
 next_given_with config board tries line given = lawful_next tries (line_attempt config board line) given
 
--- the same with as many attempts as the configuration has
+-- what a line of a board's processor with as many attempts as the configuration has does next
 unfoldable pub next_given : Configuration → ℕ → Line → Inputs → NextStep LineReply
 next_given config board line given = next_given_with config board config.tries line given
 
