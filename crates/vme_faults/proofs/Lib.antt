@@ -2,6 +2,5 @@ pub mod Sites
 pub mod Heads
 pub mod Boards
 pub mod Declared
-pub mod Slots
 pub mod Severities
 pub mod Scripts

@@ -14,7 +14,6 @@ use Rattle.vme_script.specs.declared.cause.board.BoardCause.{BoardCause}
 use Rattle.vme_script.specs.declared.fault.ConfigFault.{ConfigFault}
 use Rattle.vme_script.specs.declared.fault.ConfigFault.TheVariants.{BadSlot, BadLevel, BadWord, BadSize, Misaligned, OutsideSpace}
 use Rattle.vme_script.specs.Boards.{space_named, width_of}
-use Rattle.vme_script.specs.declared.board.BoardConfig.{BoardConfig}
 use Rattle.vme_faults.specs.declared.tables.BoardKeys.{BoardKeys}
 use Rattle.vme_faults.specs.declared.tables.KnownBoard.{KnownBoard}
 
@@ -126,8 +125,3 @@ board_refusals before board = map (λ refusal. refusal.1) (refusals_at_keys befo
 abbrev pub greatest_slot : ℕ → List KnownBoard → ℕ
 greatest_slot greatest [] = greatest
 greatest_slot greatest (board ∷ more) = greatest_slot (max greatest (unwrap_or board.in_range 0)) more
-
--- the slot of the last of some boards, or the given one
-abbrev pub last_slot : ℕ → List BoardConfig → ℕ
-last_slot before [] = before
-last_slot before (board ∷ more) = last_slot board.slot more

@@ -1,5 +1,5 @@
 //! Laws of faults. Each function's contract is a law; its body is empty.
-ghost use Rattle.std.specs.Prelude.{◌≡◌, ℕ, List, map, Ok, Some, slice_get};
+ghost use Rattle.std.specs.Prelude.{◌≡◌, ℕ, List, map, Some, slice_get};
 ghost use Rattle.std.specs.Option.{ok_or, option_and_then};
 ghost use Rattle.vme_cycle.specs.Refusals.{first_of};
 ghost use Rattle.vme_config_toml.specs.declared.file.MailboxTable.{MailboxTable};
@@ -9,12 +9,11 @@ ghost use Rattle.vme_script.specs.declared.board_range.BoardRange.{BoardRange};
 ghost use Rattle.vme_script.specs.declared.context.ScriptContext.{ScriptContext};
 ghost use Rattle.vme_script.specs.declared.fault.ConfigFault.TheVariants.{BadMailbox};
 ghost use Rattle.vme_script.specs.BoardRanges.{range_of};
-ghost use Rattle.vme_script.specs.Boards.{board_config, boards_after, entries_of};
+ghost use Rattle.vme_script.specs.Boards.{board_config, entries_of};
 ghost use Rattle.vme_script.specs.MailboxRefusals.{declared_mailbox};
 ghost use Rattle.vme_script.specs.MailboxTables.{mailbox_from_table};
 ghost use Rattle.vme_script.specs.Scripts.{lines_from};
-ghost use Rattle.vme_faults.specs.declared.tables.KnownBoard.{KnownBoard};
-ghost use Rattle.vme_faults.specs.Boards.{board_refusals, refusal_in, greatest_slot, last_slot};
+ghost use Rattle.vme_faults.specs.Boards.{board_refusals, refusal_in};
 ghost use Rattle.vme_faults.specs.Lines.{line_refusals, IsFirstOf};
 ghost use Rattle.vme_faults.specs.Mailboxes.{number_refusals, place_refusals};
 
@@ -34,13 +33,4 @@ pub fn the_first_is_reported()
         slice_get boards place.board ≡ Some board →
         refusal_in (declared_mailbox boards earlier table) ≡ first_of (map (λ refusal. refusal.1)
         (place_refusals place board.entry.size (Some board.class.width) (Some board.class.rmw) earlier)) }
-{}
-
-/// States that the greatest slot of lawful boards, above which the slot of the next board has to be,
-/// is the slot of the last of them.
-pub fn slots_ascend()
-    ensures { (known : List KnownBoard) (values : List BoardValues) (boards : List BoardConfig) →
-        boards_after 0 values ≡ Ok boards →
-        map (λ board. board.in_range) known ≡ map (λ board. Some board.slot) boards →
-        greatest_slot 0 known ≡ last_slot 0 boards }
 {}

@@ -31,6 +31,6 @@ pub use cycle::{faulty_word, request_cause};
 pub use fields::{LocatedCause, cause_of};
 pub use finding::{Finding, find};
 pub use form::form_of;
-pub use laws::{slots_ascend, the_first_is_reported};
+pub use laws::the_first_is_reported;
 pub use warnings::warnings_of;
 pub use words::{WordSpan, span_of};

@@ -31,7 +31,7 @@ two_parts f more w v two x =
     ap (λ (e : ℕ). f e b (f (first_edge w) a x)) place ∙ sym (more (first_edge w) a b x)
     ∙ ap (λ (e : ℕ). f e (a + b) x) two.begins ∙ ap (λ (n : ℕ). f 0 n x) count
 
--- the same of one cell
+-- a fold over the edges of the one cell of an event is one over all edges
 one_part : {A : Type 0} (f : ℕ → ℕ → A → A) (w : Window) → IsOneCell w → (x : A) → f (first_edge w) (end_edge w - first_edge w) x ≡ f 0 20 x
 one_part f w one x =
     let count : end_edge w - first_edge w ≡ 20 = omega (arith, one.begins, one.ends) in
