@@ -1,31 +1,33 @@
 #!/usr/bin/env python3
 """Prints the SHA-256 of the sources of a program or a library, and of each crate that it stands on.
 
-usage: sources CRATE [ROOT]
+usage: sources.py CRATE [ROOT]
 
 The sum is over the lines of crates.txt and the files of src/, specs/ and proofs/ of the crate and of those below it: for
 each crate by name its line, then each file by path, as the length of its path and of its text, and both."""
 
 import hashlib
 import pathlib
+import subprocess
 import sys
+from typing import Iterator
 
-# The files of dist/: the crate of each, and the file that its build gives.
-BUILT = {"vme": ("vme", "vme"), "bendrika": ("bendrika", "bendrika"), "libvme.a": ("vme_ffi", "libvme_ffi.a")}
+# The files of dist/ that are built.
+BUILT = ["vme", "bendrika", "libvme.a"]
 
 
-def crate_of(name):
+def crate_of(root: pathlib.Path, name: str) -> str:
     """The crate of a file of dist/."""
-    return BUILT[name][0]
+    return built(root, name).parent.parent.name
 
 
-def built(root, name):
+def built(root: pathlib.Path, name: str) -> pathlib.Path:
     """The file that the gate builds for a file of dist/."""
-    crate, file = BUILT[name]
-    return root / "crates" / crate / "out" / file
+    found = subprocess.run([root / "scripts/program", "--built", name], capture_output=True, text=True, check=True)
+    return pathlib.Path(found.stdout.strip())
 
 
-def crates_below(root, program):
+def crates_below(root: pathlib.Path, program: str) -> dict[str, str]:
     """The lines of crates.txt of a program and of the crates that it stands on, by name."""
     lines = {}
     for line in (root / "crates.txt").read_text(encoding="utf-8").splitlines():
@@ -41,7 +43,7 @@ def crates_below(root, program):
     return {name: lines[name] for name in sorted(needed)}
 
 
-def sources_of(root, program):
+def sources_of(root: pathlib.Path, program: str) -> Iterator[tuple[str, pathlib.Path]]:
     """Each file of the program's sources, in order, by its path below the root."""
     for name in crates_below(root, program):
         for part in ("src", "specs", "proofs"):
@@ -50,7 +52,8 @@ def sources_of(root, program):
                     yield path.relative_to(root).as_posix(), path
 
 
-def sum_of(root, program):
+def sum_of(root: pathlib.Path, program: str) -> str:
+    """The sum of the sources of a program."""
     total = hashlib.sha256()
     for name, line in crates_below(root, program).items():
         total.update(f"{line}\n".encode())
@@ -63,6 +66,6 @@ def sum_of(root, program):
 
 if __name__ == "__main__":
     if len(sys.argv) not in (2, 3):
-        sys.exit("usage: sources CRATE [ROOT]")
+        sys.exit("usage: sources.py CRATE [ROOT]")
     here = pathlib.Path(__file__).resolve().parent.parent
     print(sum_of(pathlib.Path(sys.argv[2]) if len(sys.argv) == 3 else here, sys.argv[1]))
