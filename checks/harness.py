@@ -1,0 +1,124 @@
+"""What the checks share: the programs, runs of them, the faults that were found, and the end of a check.
+
+A check is a program of its own. It tells what it found by `expect`, and ends by `finish`; what keeps it from going on ends it by
+`fail`. Its last line, on standard output, says what was compared."""
+
+import json
+import os
+import shutil
+import subprocess
+import sys
+import tempfile
+from pathlib import Path
+from typing import Any, Callable, NamedTuple, NoReturn, Sequence
+
+ROOT = Path(__file__).resolve().parent.parent
+NAME = Path(sys.argv[0]).stem
+# The seconds that a run has.
+TIME = 120
+# The faults that were found so far.
+faults: list[str] = []
+
+
+def path_of(name: str) -> Path:
+    """The program or the archive of this name, as scripts/program finds it. Without one the check ends."""
+    found = subprocess.run([ROOT / "scripts/program", name], stdout=subprocess.PIPE, text=True, check=False)
+    if found.returncode:
+        sys.exit(found.returncode)
+    return Path(found.stdout.removesuffix("\n"))
+
+
+def expect(holds: object, what: object) -> None:
+    """Notes a fault unless this holds."""
+    if not holds:
+        faults.append(str(what))
+
+
+def fail(what: object) -> NoReturn:
+    """Ends the check with a fault."""
+    sys.exit(f"{NAME}: {what}")
+
+
+def finish(summary: str) -> NoReturn:
+    """Ends the check: with the faults that were found, or else with what was compared."""
+    if faults:
+        sys.exit("\n".join(f"{NAME}: {it}" for it in faults))
+    print(f"{NAME}: {summary}")
+    sys.exit(0)
+
+
+class Ended(NamedTuple):
+    """How a run ended: its status, what it wrote, and what standard error had."""
+
+    status: int
+    written: str
+    told: str
+
+
+class EndedBytes(NamedTuple):
+    """How a run ended whose output need not be text."""
+
+    status: int
+    written: bytes
+    told: bytes
+
+
+def run_bytes(program: object, *words: object, given: bytes = b"", **how: Any) -> EndedBytes:
+    """Runs a program with this input. `how` goes to subprocess.run."""
+    how = {"capture_output": True, "timeout": TIME} | how
+    ran = subprocess.run([program, *words], input=given, check=False, **how)
+    return EndedBytes(ran.returncode, ran.stdout, ran.stderr)
+
+
+def run(program: object, *words: object, given: bytes | str = b"", **how: Any) -> Ended:
+    """Runs a program whose output is text."""
+    ended = run_bytes(program, *words, given=given.encode() if isinstance(given, str) else given, **how)
+    return Ended(ended.status, (ended.written or b"").decode(), (ended.told or b"").decode())
+
+
+def output(program: object, *words: object, given: bytes | str = b"") -> str:
+    """What a program writes that must succeed and tell nothing."""
+    ended = run(program, *words, given=given)
+    if ended.status or ended.told:
+        fail(f"{' '.join(map(str, words))} ends with status {ended.status}\n{ended.told}")
+    return ended.written
+
+
+def on_full_device(program: object, *words: object, given: bytes = b"") -> tuple[int, str]:
+    """The status of a run whose output goes to a device that is full, and what standard error has."""
+    with open("/dev/full", "wb") as full:
+        ran = subprocess.run([program, *words], input=given, stdout=full, stderr=subprocess.PIPE, check=False, timeout=TIME)
+    return ran.returncode, ran.stderr.decode()
+
+
+def build_c(source: Path, program: Path, *options: str) -> None:
+    """Builds a C file of checks/."""
+    if subprocess.run(["cc", "-O2", *options, "-o", program, source], check=False).returncode:
+        fail(f"{source.name} is not built")
+
+
+def peak_of(program: object, *words: object, given: bytes = b"", statuses: Sequence[int] = (0,)) -> int:
+    """The most memory, in bytes, that a run holds; 0 where there is no C compiler."""
+    if not shutil.which("cc"):
+        return 0
+    with tempfile.TemporaryDirectory() as name:
+        folder = Path(name)
+        build_c(ROOT / "checks/peak.c", folder / "peak")
+        words = (folder / "held", program, *words)
+        ended = subprocess.run([folder / "peak", *words], input=given, stdout=subprocess.DEVNULL, check=False).returncode
+        if ended not in statuses:
+            fail(f"{words} ends with {ended}")
+        return int((folder / "held").read_text(encoding="ascii"))
+
+
+def json_lines(text: str) -> list[Any]:
+    """The objects of an output with one a line."""
+    return [json.loads(line) for line in text.splitlines()]
+
+
+def map_each(function: Callable, items: Sequence) -> list:
+    """The results of a function on each item, several at once."""
+    from concurrent.futures import ThreadPoolExecutor
+
+    with ThreadPoolExecutor(os.cpu_count()) as pool:
+        return list(pool.map(function, items))
