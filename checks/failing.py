@@ -10,6 +10,8 @@ import tempfile
 from concurrent.futures import ThreadPoolExecutor
 from typing import Callable, NamedTuple
 
+from harness import expect
+
 SOURCE = pathlib.Path(__file__).resolve().parent / "refuse.c"
 TIME = 120
 
@@ -86,3 +88,12 @@ class Failing:
         for count in (0, 1, 20, len(given)):
             ended = self.run(words, given, read=count)
             expect(ended == wanted, f"{words} with an input that fails after {count} bytes: {ended}")
+
+
+def each_failure(program: object, words: list, given: bytes, capacities: list[int]) -> None:
+    """Refused memory, and an input and an output that fail, with a command whose file is standard input."""
+    with tempfile.TemporaryDirectory() as folder:
+        failing = Failing(program, folder)
+        failing.each_growth(expect, words, given)
+        failing.each_input(expect, words, given)
+        failing.each_capacity(expect, words, given, capacities)

@@ -3,14 +3,12 @@
 A check is a program of its own. It tells what it found by `expect`, and ends by `finish`; what keeps it from going on ends it by
 `fail`. Its last line, on standard output, says what was compared."""
 
-import json
-import os
 import shutil
 import subprocess
 import sys
 import tempfile
 from pathlib import Path
-from typing import Any, Callable, NamedTuple, NoReturn, Sequence
+from typing import Any, NamedTuple, NoReturn
 
 ROOT = Path(__file__).resolve().parent.parent
 NAME = Path(sys.argv[0]).stem
@@ -84,11 +82,13 @@ def output(program: object, *words: object, given: bytes | str = b"") -> str:
     return ended.written
 
 
-def on_full_device(program: object, *words: object, given: bytes = b"") -> tuple[int, str]:
-    """The status of a run whose output goes to a device that is full, and what standard error has."""
-    with open("/dev/full", "wb") as full:
-        ran = subprocess.run([program, *words], input=given, stdout=full, stderr=subprocess.PIPE, check=False, timeout=TIME)
-    return ran.returncode, ran.stderr.decode()
+def ends_alone(status: int, program: object, *words: object, given: bytes = b"", full: bool = False) -> None:
+    """Notes a fault unless a run ends with this status, a message on standard error and nothing on standard output, which is a
+    device without room if `full`."""
+    with open("/dev/full", "wb") as device:
+        how = {"stdout": device if full else subprocess.PIPE, "stderr": subprocess.PIPE, "timeout": TIME}
+        ran = subprocess.run([program, *words], input=given, check=False, **how)
+    expect(ran.returncode == status and not ran.stdout and ran.stderr, f"{words} ends with {ran.returncode}: {ran.stdout}, {ran.stderr}")
 
 
 def build_c(source: Path, program: Path, *options: str) -> None:
@@ -97,28 +97,13 @@ def build_c(source: Path, program: Path, *options: str) -> None:
         fail(f"{source.name} is not built")
 
 
-def peak_of(program: object, *words: object, given: bytes = b"", statuses: Sequence[int] = (0,)) -> int:
-    """The most memory, in bytes, that a run holds; 0 where there is no C compiler."""
+def peak_of(program: object, *words: object) -> int:
+    """The most memory, in bytes, that a run holds which ends with status 0; 0 where there is no C compiler."""
     if not shutil.which("cc"):
         return 0
     with tempfile.TemporaryDirectory() as name:
         folder = Path(name)
         build_c(ROOT / "checks/peak.c", folder / "peak")
-        words = (folder / "held", program, *words)
-        ended = subprocess.run([folder / "peak", *words], input=given, stdout=subprocess.DEVNULL, check=False).returncode
-        if ended not in statuses:
-            fail(f"{words} ends with {ended}")
+        ran = run_bytes(folder / "peak", folder / "held", program, *words)
+        expect(ran.status == 0, f"{words} ends with {ran.status}")
         return int((folder / "held").read_text(encoding="ascii"))
-
-
-def json_lines(text: str) -> list[Any]:
-    """The objects of an output with one a line."""
-    return [json.loads(line) for line in text.splitlines()]
-
-
-def map_each(function: Callable, items: Sequence) -> list:
-    """The results of a function on each item, several at once."""
-    from concurrent.futures import ThreadPoolExecutor
-
-    with ThreadPoolExecutor(os.cpu_count()) as pool:
-        return list(pool.map(function, items))
