@@ -46,9 +46,9 @@ def finish(summary: str) -> NoReturn:
 
 
 class Ended(NamedTuple):
-    """How a run ended: its status, what it wrote, and what standard error had."""
+    """How a run ended: its status, None if it took more than its time, what it wrote, and what standard error had."""
 
-    status: int
+    status: int | None
     written: str
     told: str
 
@@ -56,7 +56,7 @@ class Ended(NamedTuple):
 class EndedBytes(NamedTuple):
     """How a run ended whose output need not be text."""
 
-    status: int
+    status: int | None
     written: bytes
     told: bytes
 
@@ -64,7 +64,10 @@ class EndedBytes(NamedTuple):
 def run_bytes(program: object, *words: object, given: bytes = b"", **how: Any) -> EndedBytes:
     """Runs a program with this input. `how` goes to subprocess.run."""
     how = {"capture_output": True, "timeout": TIME} | how
-    ran = subprocess.run([program, *words], input=given, check=False, **how)
+    try:
+        ran = subprocess.run([program, *words], input=given, check=False, **how)
+    except subprocess.TimeoutExpired:
+        return EndedBytes(None, b"", b"")
     return EndedBytes(ran.returncode, ran.stdout, ran.stderr)
 
 
@@ -74,11 +77,11 @@ def run(program: object, *words: object, given: bytes | str = b"", **how: Any) -
     return Ended(ended.status, (ended.written or b"").decode(), (ended.told or b"").decode())
 
 
-def output(program: object, *words: object, given: bytes | str = b"") -> str:
-    """What a program writes that must succeed and tell nothing."""
-    ended = run(program, *words, given=given)
-    if ended.status or ended.told:
-        fail(f"{' '.join(map(str, words))} ends with status {ended.status}\n{ended.told}")
+def output(program: object, *words: object, given: bytes | str = b"", **how: Any) -> str:
+    """What a program writes that must end with status 0."""
+    ended = run(program, *words, given=given, **how)
+    if ended.status != 0:
+        fail(f"{' '.join(map(str, (program, *words)))} ends with status {ended.status}\n{ended.told}")
     return ended.written
 
 
