@@ -10,9 +10,9 @@ import tempfile
 from concurrent.futures import ThreadPoolExecutor
 from typing import Callable, NamedTuple
 
-from harness import expect
+from harness import ROOT, build_c, expect
 
-SOURCE = pathlib.Path(__file__).resolve().parent / "refuse.c"
+SOURCE = ROOT / "checks/refuse.c"
 TIME = 120
 
 
@@ -32,7 +32,7 @@ class Failing:
         self.pool, self.count = ThreadPoolExecutor(), 0
         if shutil.which("cc"):
             self.library = self.folder / "refuse.so"
-            subprocess.run(["cc", "-O2", "-shared", "-fPIC", "-o", self.library, SOURCE], check=True)
+            build_c(SOURCE, self.library, "-shared", "-fPIC")
 
     def plain(self, words: list, given: bytes) -> Ended:
         """A run in which nothing fails."""
@@ -53,20 +53,41 @@ class Failing:
             ended = self.run(words, given, refuse=number, refuse_on=met.fileno())
             return ended, os.fstat(met.fileno()).st_size > 0
 
-    def each_growth(self, expect: Callable, words: list, given: bytes = b"") -> None:
-        """With each growth of memory refused in turn a run gives the whole answer, or a prefix of it and `memory`."""
+    def each_growth(self, expect: Callable, words: list, given: bytes = b"", told: tuple = (b"bendrika: memory\n",),
+                    begin: bytes | None = None) -> int:
+        """With each growth of memory refused in turn a run gives the whole answer, or a prefix of it and one of the texts `told`.
+        Of an answer that differs from run to run `begin` is what does not. Returns how many growths were refused."""
         if self.library is None:
-            return
-        whole, first, is_over = self.plain(words, given), 1, False
+            return 0
+        whole, count, first, is_over = self.plain(words, given), self.count, 1, False
+        expect(begin is None or whole.written.startswith(begin), f"{words}: {whole}")
+
+        def is_right(ended: Ended, is_met: bool) -> bool:
+            least = whole.written if begin is None else begin
+            is_prefix = least.startswith(ended.written) or begin is not None and ended.written.startswith(begin)
+            is_whole = ended == whole or begin is not None and ended == (whole.status, ended.written, b"") and is_prefix
+            return is_whole or is_met and ended.status == 3 and ended.told in told and is_prefix
+
         while not is_over:
             numbers = range(first, first + 64)
             for number, (ended, is_met) in zip(numbers, self.pool.map(lambda it: self.refused(words, given, it), numbers)):
-                is_fault = ended.status == 3 and ended.told == b"bendrika: memory\n" and whole.written.startswith(ended.written)
-                expect(ended == whole or is_met and is_fault, f"{words} where growth {number} is refused: {ended}")
+                expect(is_right(ended, is_met), f"{words} where growth {number} is refused: {ended}")
                 self.count += is_met
                 is_over = is_over or not is_met
             first += 64
-        expect(self.refused(words, given, 1)[1], f"{words}: no growth was refused")
+        expect(self.count > count, f"{words}: no growth was refused")
+        return self.count - count
+
+    def each_pass(self, expect: Callable, words: list) -> int:
+        """With each growth of memory refused in turn a run ends with status 0. Returns how many growths were refused."""
+        number, (ended, is_met) = 1, self.refused(words, b"", 1)
+        expect(is_met, f"{words}: no growth was refused")
+        while is_met:
+            expect(ended.status == 0, f"{words} where growth {number} is refused: {ended}")
+            number += 1
+            ended, is_met = self.refused(words, b"", number)
+        expect(ended.status == 0, f"{words} where no growth is refused: {ended}")
+        return number - 1
 
     def each_capacity(self, expect: Callable, words: list, given: bytes, capacities: list[int]) -> None:
         """An output that takes so many bytes, seven a call, and then fails, has just these bytes; one that does not has all."""
