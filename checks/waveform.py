@@ -248,7 +248,7 @@ class Monitor:
         place, memory = slice(offset, offset + len(data)), self.memory[slot]
         need(data and place.stop <= len(memory), f"{len(data)} bytes at offset {offset:08x} of slot {slot}", time)
         if reads:
-            need(bytes(data) == memory[place], f"{bytes(data).hex()} is read at offset {offset:08x} of slot {slot}", time)
+            need(bytes(data) == memory[place], f"{bytes(data).hex()} is read at {offset:08x} of slot {slot}, not {memory[place].hex()}", time)
         memory[place] = bytes(data)
 
     def rules(self, time: int, before: dict[str, str]) -> None:
