@@ -1,7 +1,8 @@
 """Value change dumps as `bendrika trace` writes them: the changes of each event, and what a monitor on the backplane decodes.
 
-The monitor reads the dump alone, with the boards of the file. It checks the rules of the handshake and of arbitration at each
-edge, decodes each datum where its answer falls, and keeps the bytes of each board: what is read must be what was written."""
+The monitor reads the dump, with the boards and scripts of the file. It checks the rules of the handshake and of arbitration at
+each edge, decodes each datum where its answer falls, compares it with the line that asks for it, and keeps the bytes of each
+board: what is read must be what was written."""
 
 import re
 import tomllib
@@ -20,6 +21,8 @@ LOCATIONS = {
     "0010": (0, "xxx."), "0100": (1, ".xxx"), "0001": (1, ".xx."), "0000": (0, "xxxx"),
 }
 ROW = 16
+# The lines of a script that ask for one transfer.
+REQUESTS = ("r", "w", "m", "br", "bw", "bf")
 
 
 class Fault(Exception):
@@ -151,10 +154,15 @@ class Transfer:
         self.address, self.a01 = number(now["a"]), now["a01"]
         self.count, self.reads, self.last = 0, now["write_n"] == "1", 0
 
+    def place(self, now: dict[str, str], time: int) -> tuple[int, str]:
+        """The place of a datum in its group of four by the strobes, and the lanes that carry it. It is no eight-byte datum."""
+        levels = "".join((now["lword_n"], now["ds1_n"], now["ds0_n"], self.a01))
+        need(levels in LOCATIONS, f"no byte location has the levels {levels}", time)
+        return LOCATIONS[levels]
+
     def location(self, now: dict[str, str], time: int) -> int:
         """The address of a datum that is no eight-byte datum, by the strobes."""
-        place, driven = LOCATIONS.get("".join((now["lword_n"], now["ds1_n"], now["ds0_n"], self.a01)), (None, ""))
-        need(place is not None, "no byte location has these strobes", time)
+        place, driven = self.place(now, time)
         found = "".join("." if "z" in part else "x" for part in octets(now["d"]))
         need(found == driven, f"the lanes {found} are driven, not {driven}", time)
         if not self.count:
@@ -224,12 +232,29 @@ class Monitor:
             on_address = number(s["a"]), number(s["a01"]), number(s["lword_n"])
             need(on_address == (upper & ~3, upper >> 1 & 1, upper & 1), "the address lines carry other bytes than D63 to D32", time)
             need(len(data) == 8, f"{len(data)} bytes of eight", time)
+        self.asked(time, data)
         if data and not berr:
             address = self.transfer.address + self.transfer.count if wide else self.transfer.location(s, time)
             board = self.boards[selected[0]]
             need(board.base <= address, f"slot {board.slot} is selected by address {address:08x}", time)
             self.move(time, board.slot, address - board.base, data, s["write_n"] == "1")
             self.transfer.count, self.transfer.last = self.transfer.count + len(data), len(data)
+
+    def asked(self, time: int, data: list[int]) -> None:
+        """A handshake of a request line has its code, its address and, if it writes, its bytes."""
+        slot, line = self.line()
+        words, transfer, s = self.boards[slot].words(line), self.transfer, self.now
+        if words[0] not in REQUESTS:
+            return
+        code, address = int(words[1], 16), int(words[2], 16)
+        need(number(s["am"]) == code, f"the code is {number(s['am']):02x}, not {code:02x}", time)
+        if not transfer.count:
+            place = 0 if code in WIDE else transfer.place(s, time)[0]
+            need(transfer.address + place == address, f"the address is {transfer.address + place:08x}, not {address:08x}", time)
+        earlier = [it for it in self.seen[slot, line][:-1] if it[0]]
+        wanted = written(words, len(earlier))
+        need(s["write_n"] == ("0" if wanted or words[0] == "m" and earlier else "1"), "WRITE* has the other level", time)
+        need(not wanted or not data or bytes(data) == wanted, f"{bytes(data).hex()} is written, not {wanted.hex()}", time)
 
     def access(self, time: int, slot: int, berr: bool) -> None:
         """A handshake of the local port."""
@@ -239,7 +264,12 @@ class Monitor:
             self.accesses[slot] += 1
             self.seen[self.line()] = []
         data, reads = lanes(s[f"s{slot}_lp_d"]), s[f"s{slot}_lp_we"] == "0"
+        words, earlier = self.boards[slot].words(self.line()[1]), len(self.seen[self.line()])
         self.seen[self.line()].append((data, berr, reads, event))
+        offset, writes = int(words[1], 16), words[0] == "lw" or earlier > 0
+        need(number(s[f"s{slot}_lp_a"]) == offset, f"the offset at the local port of slot {slot} is not {offset:08x}", time)
+        need(reads != writes, f"the direction at the local port of slot {slot}", time)
+        need(words[0] != "lw" or bytes(data).hex() == words[2].lower(), f"{bytes(data).hex()} is written, not {words[2]}", time)
         if not berr:
             self.move(time, slot, number(s[f"s{slot}_lp_a"]), data, reads)
 
@@ -272,6 +302,19 @@ class Monitor:
         if time % EVENT == 0 and time > EVENT:
             rest = [name for name in ("ds1_n", "ds0_n", "dtack_n", "berr_n") if before[name] == "0"]
             need(not rest, f"{rest} at the end of an event", time)
+
+
+def written(words: list[str], number: int) -> bytes:
+    """The bytes that a request line writes with its datum of this number, from 0; none if it reads."""
+    match words[0]:
+        case "w":
+            return bytes.fromhex(words[3])
+        case "bw":
+            length = int(words[3])
+            return bytes.fromhex(words[4])[length * number : length * (number + 1)]
+        case "bf":
+            return bytes.fromhex(words[5])
+    return b""
 
 
 def expected(seen: list[tuple]) -> tuple[str, list[int]]:
