@@ -1,6 +1,7 @@
 """Runs of a program in which an allocation fails, or a device fails or moves few bytes.
 
-The library checks/refuse.c, which is loaded before the C library, makes the calls fail. Without a C compiler nothing is run."""
+The library checks/refuse.c, which is loaded before the C library, makes the calls fail. Without a C compiler nothing is run,
+nor of a program in node."""
 
 import os
 import pathlib
@@ -10,7 +11,7 @@ import tempfile
 from concurrent.futures import ThreadPoolExecutor
 from typing import Callable, NamedTuple
 
-from harness import ROOT, build_c, expect
+from harness import ROOT, build_c, expect, in_node
 
 SOURCE = ROOT / "checks/refuse.c"
 TIME = 120
@@ -30,7 +31,7 @@ class Failing:
     def __init__(self, program: object, folder: object) -> None:
         self.program, self.folder, self.library = program, pathlib.Path(folder), None
         self.pool, self.count = ThreadPoolExecutor(), 0
-        if shutil.which("cc"):
+        if shutil.which("cc") and not in_node(program):
             self.library = self.folder / "refuse.so"
             build_c(SOURCE, self.library, "-shared", "-fPIC")
 

@@ -26,6 +26,12 @@ def path_of(name: str) -> Path:
     return Path(found.stdout.removesuffix("\n"))
 
 
+def in_node(program: object) -> bool:
+    """Whether a program is a script of bin/ for node. It is given no word that is not UTF-8, has no threads, its calls cannot be
+    made to fail, and its memory is node's."""
+    return Path(str(program)).suffix == ".mjs"
+
+
 def expect(holds: object, what: object) -> None:
     """Notes a fault unless this holds."""
     if not holds:
@@ -101,8 +107,8 @@ def build_c(source: Path, program: Path, *options: str) -> None:
 
 
 def peak_of(program: object, *words: object) -> int:
-    """The most memory, in bytes, that a run holds which ends with status 0; 0 where there is no C compiler."""
-    if not shutil.which("cc"):
+    """The most memory, in bytes, that a run holds which ends with status 0; 0 where there is no C compiler, or in node."""
+    if not shutil.which("cc") or in_node(program):
         return 0
     with tempfile.TemporaryDirectory() as name:
         folder = Path(name)

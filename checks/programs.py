@@ -1,5 +1,5 @@
 """Where the programs and the archive are that the checks run: see harness.py."""
 
-from harness import path_of
+from harness import in_node, path_of
 
-__all__ = ["path_of"]
+__all__ = ["in_node", "path_of"]
