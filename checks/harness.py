@@ -84,9 +84,9 @@ def run(program: object, *words: object, given: bytes | str = b"", **how: Any) -
 
 
 def output(program: object, *words: object, given: bytes | str = b"", **how: Any) -> str:
-    """What a program writes that must end with status 0."""
+    """What a program writes that must end with status 0 and tell nothing."""
     ended = run(program, *words, given=given, **how)
-    if ended.status != 0:
+    if ended.status != 0 or ended.told:
         fail(f"{' '.join(map(str, (program, *words)))} ends with status {ended.status}\n{ended.told}")
     return ended.written
 
