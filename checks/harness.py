@@ -14,6 +14,8 @@ ROOT = Path(__file__).resolve().parent.parent
 NAME = Path(sys.argv[0]).stem
 # The seconds that a run has.
 TIME = 120
+# The most faults that are printed.
+MOST = 20
 # The faults that were found so far.
 faults: list[str] = []
 
@@ -46,7 +48,8 @@ def fail(what: object) -> NoReturn:
 def finish(summary: str) -> NoReturn:
     """Ends the check: with the faults that were found, or else with what was compared."""
     if faults:
-        sys.exit("\n".join(f"{NAME}: {it}" for it in faults))
+        more = [f"{len(faults) - MOST} more"] if len(faults) > MOST else []
+        sys.exit("\n".join(f"{NAME}: {it}" for it in faults[:MOST] + more))
     print(f"{NAME}: {summary}")
     sys.exit(0)
 
