@@ -12,8 +12,8 @@ from typing import Any, NamedTuple, NoReturn
 
 ROOT = Path(__file__).resolve().parent.parent
 NAME = Path(sys.argv[0]).stem
-# The seconds that a run has.
-TIME = 120
+# The seconds that a run has. On a busy machine a compiler takes a minute.
+TIME = 300
 # The most faults that are printed.
 MOST = 20
 # The faults that were found so far.
