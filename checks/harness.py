@@ -41,8 +41,9 @@ def expect(holds: object, what: object) -> None:
 
 
 def fail(what: object) -> NoReturn:
-    """Ends the check with a fault."""
-    sys.exit(f"{NAME}: {what}")
+    """Ends the check with a fault, after those that were noted before."""
+    faults.append(str(what))
+    finish("")
 
 
 def finish(summary: str) -> NoReturn:
