@@ -3,6 +3,7 @@
 import ctypes
 import os
 from ctypes import POINTER, c_size_t, c_uint8, c_uint16, c_uint32
+from pathlib import Path
 from types import SimpleNamespace
 
 from .numbers import Number, checked
@@ -59,8 +60,17 @@ SIGNATURES: dict[str, tuple] = {
 }
 
 
+NAME = "libvme.so.1"
+
+
+def _path() -> str:
+    """The library that LIBVME names, else the one beside this file, as in a wheel, else the one that the loader finds."""
+    beside = Path(__file__).with_name(NAME)
+    return os.environ.get("LIBVME") or (str(beside) if beside.exists() else NAME)
+
+
 def _load() -> SimpleNamespace:
-    shared, found = ctypes.CDLL(os.environ.get("LIBVME", "libvme.so.1")), SimpleNamespace()
+    shared, found = ctypes.CDLL(_path()), SimpleNamespace()
     for name, (result, *arguments) in SIGNATURES.items():
         function = getattr(shared, f"vme_{name}")
         function.restype = result
