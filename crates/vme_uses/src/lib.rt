@@ -23,6 +23,7 @@ pub mod memory;
 pub mod object;
 pub mod port;
 pub mod port_array;
+pub mod reduce;
 pub mod report;
 pub mod run;
 pub mod runner;
