@@ -2,6 +2,7 @@
 use crate::fault::{Fault, printed};
 use crate::status::Status;
 use clap::ArgMatches;
+use vme_check::shown_name;
 use vme_explain::{Answer, explain, explain_all};
 
 /// Prints the texts that the words ask for.
@@ -12,13 +13,19 @@ pub(crate) fn explained(rt: &HostRuntime, words: &ArgMatches<'_>) -> Result<Stat
         printed(rt, text.as_str())?;
         return Ok(Status::Done);
     }
-    match explain(rt.alloc(), line_of(rt, words)?.as_str(), json)? {
+    let line = line_of(rt, words)?;
+    let answer = if line.is_empty() && words.get_strs("WORD").is_some() {
+        Answer::Unknown(line)
+    } else {
+        explain(rt.alloc(), line.as_str(), json)?
+    };
+    match answer {
         Answer::Text(text) => {
             printed(rt, text.as_str())?;
             Ok(Status::Done)
         }
         Answer::Unknown(word) => {
-            let word = word.as_str();
+            let word = shown_name(rt.alloc(), word.as_str())?;
             let _ = eprintln!(rt; "bendrika: no text for `{word}`; bendrika explain lists all");
             Ok(Status::WrongWords)
         }

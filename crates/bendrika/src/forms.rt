@@ -43,8 +43,8 @@ pub(crate) struct Form {
     pub(crate) name: &'static str,
     /// What it does, in one line of the help.
     pub(crate) about: &'static str,
-    /// Its exit statuses, the last line of its help.
-    pub(crate) status: &'static str,
+    /// What its help ends with: its exit statuses, or the lines that it lists.
+    pub(crate) end: &'static str,
     pub(crate) words: &'static [Word],
 }
 
@@ -108,7 +108,7 @@ static CYCLES: [Word; 5] = [
         name: "FILE",
         value: "FILE",
         kind: Kind::Optional,
-        help: "A file of request lines; - or none is standard input",
+        help: "A file of request lines; - or none is standard input, which is read to its end",
     },
     JSON,
     QUIET,
@@ -190,50 +190,81 @@ static OUTCOMES: [Word; 6] = [
     },
 ];
 
+/// The syntax of lines. `checks/explain` compares the forms with those of `docs/GUIDE.md`.
+pub(crate) const LINES: &str = "Request lines, of vme cycles and of scripts:
+  r AM ADDR N             read N bytes
+  w AM ADDR HEX           write these bytes
+  br AM ADDR N COUNT      read a block of COUNT data of N bytes each
+  bw AM ADDR N HEX        write a block, HEX cut into data of N bytes
+  bf AM ADDR N COUNT HEX  write a block of one datum of N bytes, COUNT times
+  m AM ADDR N FUNC        read, modify and write N bytes
+
+Lines of scripts alone:
+  lr OFF N                read 1, 2 or 4 bytes by the local port
+  lw OFF HEX              write 1, 2 or 4 bytes by the local port
+  lm OFF N FUNC           read, modify and write 1, 2 or 4 bytes by the local port
+  await AM ADDR HEX       read over the bus until the bytes are HEX
+  lock AM ADDR            take the lock in the byte at ADDR
+  unlock AM ADDR          give the lock back
+  put BOX HEX             put a word of four bytes into a mailbox
+  take BOX                take the oldest word of a mailbox
+
+AM is an address modifier in two hexadecimal digits, as 09 or 0d; ADDR an address and OFF an offset
+in eight; N one digit; COUNT one to four decimal digits; HEX pairs of hexadecimal digits; BOX the
+number of a mailbox, from 1. FUNC is set, xchg HEX, add HEX or cas HEX HEX. Words are separated by
+spaces, a line has at most 80 bytes, and a comment is a line that begins with #.
+";
+
 /// Returns the subcommands, in the order in which the help lists them.
-pub(crate) fn forms() -> [Form; 7] {
+pub(crate) fn forms() -> [Form; 8] {
     [
         Form {
             name: "check",
             about: "Report the faults of configuration files, with line and column",
-            status: "Status: 0 no error, 1 errors, 2 wrong words, 3 a file or the output failed",
+            end: "Status: 0 no error, 1 errors, 2 wrong words, 3 a file or the output failed",
             words: CHECK.as_slice(),
         },
         Form {
             name: "explain",
             about: "Explain a code, a reply or a warning: cause, rule, an example, what to do",
-            status: "Status: 0 explained, 2 unknown or wrong words, 3 a fault",
+            end: "Status: 0 explained, 2 unknown or wrong words, 3 a fault",
             words: EXPLAIN.as_slice(),
         },
         Form {
             name: "cycles",
             about: "Report the faults of request lines, and make no cycle",
-            status: "Status: 0 no error, 1 errors, 2 wrong words, 3 a file or the output failed",
+            end: "Status: 0 no error, 1 errors, 2 wrong words, 3 a file or the output failed",
             words: CYCLES.as_slice(),
         },
         Form {
             name: "serve",
             about: "Answer lines `SLOT LINE` of standard input, one by one, over a file's boards",
-            status: "Status: 0 end of input, 2 wrong words or no configuration, 3 a fault",
+            end: "Status: 0 end of input, 2 wrong words or no configuration, 3 a fault",
             words: SERVE.as_slice(),
         },
         Form {
             name: "outcomes",
             about: "List every outcome that some order of turns gives, each with a schedule",
-            status: "Status: 0 listed, 1 a condition fails, 2 wrong words or no configuration, 3 a fault or too many states",
+            end: "Status: 0 listed, 1 a condition fails, 2 wrong words or no configuration, 3 a fault or too many states",
             words: OUTCOMES.as_slice(),
         },
         Form {
             name: "trace",
             about: "Write the waveforms of the run of vme step, as a value change dump (VCD)",
-            status: "Status: 0 written, 2 wrong words or no configuration, 3 a fault",
+            end: "Status: 0 written, 2 wrong words or no configuration, 3 a fault",
             words: TRACE.as_slice(),
         },
         Form {
             name: "page",
             about: "Write timing diagrams of the run of vme step, and its report, as a page of HTML",
-            status: "Status: 0 written, 2 wrong words or no configuration, 3 a fault",
+            end: "Status: 0 written, 2 wrong words or no configuration, 3 a fault",
             words: PAGE.as_slice(),
+        },
+        Form {
+            name: "lines",
+            about: "Show the syntax of request lines and of script lines",
+            end: LINES,
+            words: &[],
         },
     ]
 }

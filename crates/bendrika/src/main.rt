@@ -3,9 +3,10 @@
 //! `bendrika check` reports the faults of configuration files that it can distinguish, `bendrika
 //! cycles` those of request lines, `bendrika explain` prints what a code or a reply of `vme` means,
 //! `bendrika serve` answers lines one by one, `bendrika outcomes` lists every outcome of a file,
-//! `bendrika trace` writes the waveforms of its run, and `bendrika page` a page with its timing
-//! diagrams. The exit status is 0; 1 after errors in an input or if a condition fails; 2 for wrong
-//! words, or a file of `outcomes`, `page` or `trace` that is no configuration; 3 after a fault.
+//! `bendrika trace` writes the waveforms of its run, `bendrika page` a page with its timing diagrams,
+//! and `bendrika lines` shows the syntax of lines. The exit status is 0; 1 after errors in an input
+//! or if a condition fails; 2 for wrong words, or a file of `outcomes`, `page` or `trace` that is no
+//! configuration; 3 after a fault.
 #![tactic(auto)]
 
 mod check;
@@ -22,7 +23,8 @@ mod words;
 
 use crate::check::{checked, requests_checked};
 use crate::explain::explained;
-use crate::fault::{Fault, fault_of};
+use crate::fault::{Fault, fault_of, printed};
+use crate::forms::LINES;
 use crate::outcomes::listed;
 use crate::page::paged;
 use crate::serve::served;
@@ -30,8 +32,10 @@ use crate::status::Status;
 use crate::trace::traced;
 use crate::words::program;
 use clap::error::{Error, ErrorKind};
+use std::alloc::{AllocError, Global};
 use std::process::ExitCode;
 use std::{env, io};
+use vme_check::shown_name;
 
 fn main(rt: HostRuntime) -> ExitCode {
     let status = match run(&rt) {
@@ -64,14 +68,43 @@ fn run(rt: &HostRuntime) -> Result<Status, Fault> {
             Some(("page", words)) => paged(rt, words),
             Some(("serve", words)) => served(rt, words),
             Some(("trace", words)) => traced(rt, words),
+            Some(("lines", _)) => lines_shown(rt),
             _ => Ok(Status::WrongWords),
         },
-        Err(error) => not_parsed(rt, &error),
+        Err(error) => not_parsed(rt, words.as_slice(), &error),
     }
 }
 
-/// Prints the help, the version, or what is wrong with the words.
-fn not_parsed(rt: &HostRuntime, error: &Error) -> Result<Status, Fault> {
+/// Prints the syntax of lines.
+fn lines_shown(rt: &HostRuntime) -> Result<Status, Fault> {
+    printed(rt, LINES)?;
+    Ok(Status::Done)
+}
+
+/// Prints the help, the version, or what is wrong with the words. A message may quote a word, so it
+/// is that of the words without control characters.
+fn not_parsed(rt: &HostRuntime, words: &[String], error: &Error) -> Result<Status, Fault> {
+    if error.kind() == ErrorKind::OutOfMemory {
+        return Err(Fault::Memory);
+    }
+    let shown = shown_words(rt.alloc(), words)?;
+    match program(rt.alloc())?.try_get_matches_from(shown.as_slice()) {
+        Err(error) => print(rt, &error),
+        Ok(_) => print(rt, error),
+    }
+}
+
+/// The words without control characters.
+fn shown_words(alloc: Global, words: &[String]) -> Result<Vec<String>, AllocError> {
+    let mut shown = Vec::new(alloc);
+    for word in words {
+        shown.push(shown_name(alloc, word.as_str())?)?;
+    }
+    Ok(shown)
+}
+
+/// Prints the help, the version, or an error of the words.
+fn print(rt: &HostRuntime, error: &Error) -> Result<Status, Fault> {
     if error.kind() == ErrorKind::OutOfMemory {
         return Err(Fault::Memory);
     }

@@ -27,7 +27,7 @@ pub(crate) fn program<'a>(alloc: Global) -> Result<Command<'a>, AllocError> {
 fn subcommand<'a>(alloc: Global, form: &Form) -> Result<Command<'a>, AllocError> {
     let mut command = Command::new(alloc, form.name)
         .about(form.about)
-        .after_help(form.status);
+        .after_help(form.end);
     for word in form.words {
         command = command.arg(argument(alloc, word)?)?;
     }
