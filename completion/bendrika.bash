@@ -13,7 +13,7 @@ _bendrika() {
     cycles) COMPREPLY=($(compgen -W "--json --quiet --no-warnings --limit --help" -- "$word") $(compgen -f -- "$word")) ;;
     serve) COMPREPLY=($(compgen -W "--help" -- "$word") $(compgen -f -- "$word")) ;;
     outcomes) COMPREPLY=($(compgen -W "--never --always --quiet --limit --progress --help" -- "$word") $(compgen -f -- "$word")) ;;
-    trace) COMPREPLY=($(compgen -W "--help" -- "$word") $(compgen -f -- "$word")) ;;
+    trace) COMPREPLY=($(compgen -W "--polls --gtkw --help" -- "$word") $(compgen -f -- "$word")) ;;
     page) COMPREPLY=($(compgen -W "--help" -- "$word") $(compgen -f -- "$word")) ;;
     lines) COMPREPLY=($(compgen -W "--help" -- "$word")) ;;
     esac
