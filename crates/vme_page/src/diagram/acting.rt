@@ -5,7 +5,7 @@ use crate::diagram::point::changes_in;
 use crate::diagram::shape::{begin_text, end_text, print_numbered};
 use crate::diagram::strip::OpenCell;
 use crate::diagram::window::Window;
-use std::alloc::{AllocError, Global};
+use std::alloc::AllocError;
 use vme_trace::{Code, Value};
 
 /// What the slot of a bar does in a strip.
@@ -19,17 +19,17 @@ pub(crate) enum Acts {
     Rests,
 }
 
-/// Returns what the slot of each bar does, by the bars before the strip and its cells.
-pub(crate) fn acts_of(
-    alloc: Global,
+/// Replaces a list by what the slot of each bar does, by the bars before the strip and its cells.
+pub(crate) fn find_acts(
+    acts: &mut Vec<Acts>,
     bars: &[Bar],
     cells: &[OpenCell],
-) -> Result<Vec<Acts>, AllocError> {
-    let mut acts = Vec::new(alloc);
+) -> Result<(), AllocError> {
+    acts.clear();
     for bar in bars {
         acts.push(act_of(*bar, cells))?;
     }
-    Ok(acts)
+    Ok(())
 }
 
 /// Returns what the slot of a bar does.
@@ -49,7 +49,7 @@ fn act_of(bar: Bar, cells: &[OpenCell]) -> Acts {
 /// Returns whether a variable changes in some cell.
 fn is_driven(code: Code, cells: &[OpenCell]) -> bool {
     for cell in cells {
-        if changes_in(cell.window, code, cell.changes.as_slice()) {
+        if cell.used && changes_in(cell.window, code, cell.changes.as_slice()) {
             return true;
         }
     }

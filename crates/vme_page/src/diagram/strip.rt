@@ -1,6 +1,6 @@
 //! A strip: cells side by side, and the names of their lines.
 
-use crate::diagram::acting::{Acts, acts_of, print_waiting};
+use crate::diagram::acting::{Acts, find_acts, print_waiting};
 use crate::diagram::cell::{Cell, print_cell};
 use crate::diagram::layout::{Bar, LocalPort, record_bars};
 use crate::diagram::levels::Levels;
@@ -23,6 +23,8 @@ const LEAST_WIDTH: u32 = 500;
 /// A cell of the open strip.
 #[derive(Drop)]
 pub(crate) struct OpenCell {
+    /// Whether it is one of the open strip; else it keeps its buffers for a later one.
+    pub(crate) used: bool,
     /// The edges that it shows.
     pub(crate) window: Window,
     /// The values of the lines of the bus before it.
@@ -41,6 +43,7 @@ pub(crate) struct Strip {
     number: u32,
     bars: Vec<Bar>,
     cells: Vec<OpenCell>,
+    acts: Vec<Acts>,
 }
 
 impl Strip {
@@ -51,13 +54,14 @@ impl Strip {
             number: 0,
             bars: Vec::new(alloc),
             cells: Vec::new(alloc),
+            acts: Vec::new(alloc),
         }
     }
 
     /// Begins a strip: the number of its first event, and the bars before it.
     pub(crate) fn begin(&mut self, number: u32, bars: &[Bar]) -> Result<(), AllocError> {
         self.number = number;
-        self.cells.clear();
+        close_cells(&mut self.cells);
         self.bars.clear();
         self.bars.extend_from_slice(bars)
     }
@@ -70,14 +74,19 @@ impl Strip {
         heading: &[u8],
         changes: &[Change],
     ) -> Result<(), AllocError> {
+        for cell in self.cells.iter_mut() {
+            if !cell.used {
+                return open_cell(cell, window, levels, heading, changes);
+            }
+        }
         let mut cell = OpenCell {
+            used: false,
             window,
             levels,
             heading: Vec::new(self.alloc),
             changes: Vec::new(self.alloc),
         };
-        cell.heading.extend_from_slice(heading)?;
-        cell.changes.extend_from_slice(changes)?;
+        open_cell(&mut cell, window, levels, heading, changes)?;
         self.cells.push(cell)?;
         Ok(())
     }
@@ -89,25 +98,62 @@ impl Strip {
         points: &mut Vec<Point>,
         ports: &[LocalPort],
     ) -> Result<(), AllocError> {
-        if self.cells.is_empty() {
+        let count = count_of(self.cells.as_slice());
+        if count == 0 {
             return Ok(());
         }
-        let acts = acts_of(self.alloc, self.bars.as_slice(), self.cells.as_slice())?;
-        let places = places_of(acts.as_slice(), self.cells.as_slice(), ports);
-        begin_strip(text, self.cells.len(), places.height, self.number)?;
-        print_names(text, self.bars.as_slice(), acts.as_slice(), places)?;
+        find_acts(&mut self.acts, self.bars.as_slice(), self.cells.as_slice())?;
+        let places = places_of(self.acts.as_slice(), self.cells.as_slice(), ports);
+        begin_strip(text, count, places.height, self.number)?;
+        print_names(text, self.bars.as_slice(), self.acts.as_slice(), places)?;
         print_cells(
             text,
             points,
             self.cells.as_slice(),
             &mut self.bars,
-            acts.as_slice(),
+            self.acts.as_slice(),
             ports,
             places,
         )?;
-        self.cells.clear();
+        close_cells(&mut self.cells);
         text.extend_from_slice(b"</svg></div>\n")
     }
+}
+
+/// Fills a cell of the open strip.
+fn open_cell(
+    cell: &mut OpenCell,
+    window: Window,
+    levels: Levels,
+    heading: &[u8],
+    changes: &[Change],
+) -> Result<(), AllocError> {
+    cell.heading.clear();
+    cell.heading.extend_from_slice(heading)?;
+    cell.changes.clear();
+    cell.changes.extend_from_slice(changes)?;
+    cell.window = window;
+    cell.levels = levels;
+    cell.used = true;
+    Ok(())
+}
+
+/// Takes all cells out of the open strip.
+fn close_cells(cells: &mut [OpenCell]) {
+    for cell in cells.iter_mut() {
+        cell.used = false;
+    }
+}
+
+/// Returns the number of cells of the open strip.
+fn count_of(cells: &[OpenCell]) -> u32 {
+    let mut count: u32 = 0;
+    for cell in cells {
+        if cell.used {
+            count = count.saturating_add(1);
+        }
+    }
+    count
 }
 
 /// Returns where the lines of a strip are.
@@ -128,7 +174,7 @@ fn places_of(acts: &[Acts], cells: &[OpenCell], ports: &[LocalPort]) -> Places {
 fn has_access(cells: &[OpenCell], ports: &[LocalPort]) -> bool {
     for port in ports {
         for cell in cells {
-            if changes_in(Window::Whole, port.write, cell.changes.as_slice()) {
+            if cell.used && changes_in(Window::Whole, port.write, cell.changes.as_slice()) {
                 return true;
             }
         }
@@ -148,35 +194,32 @@ fn print_cells(
 ) -> Result<(), AllocError> {
     let mut column: u8 = 0;
     for cell in cells {
-        let shown = Cell {
-            window: cell.window,
-            column,
-            levels: cell.levels,
-        };
-        print_cell(
-            text,
-            points,
-            shown,
-            cell.heading.as_slice(),
-            cell.changes.as_slice(),
-            bars.as_slice(),
-            acts,
-            ports,
-            places,
-        )?;
-        record_bars(bars, cell.window, cell.changes.as_slice());
-        column = column.saturating_add(1);
+        if cell.used {
+            let shown = Cell {
+                window: cell.window,
+                column,
+                levels: cell.levels,
+            };
+            print_cell(
+                text,
+                points,
+                shown,
+                cell.heading.as_slice(),
+                cell.changes.as_slice(),
+                bars.as_slice(),
+                acts,
+                ports,
+                places,
+            )?;
+            record_bars(bars, cell.window, cell.changes.as_slice());
+            column = column.saturating_add(1);
+        }
     }
     Ok(())
 }
 
 /// Appends the begin of a strip.
-fn begin_strip(
-    text: &mut Vec<u8>,
-    cells: usize,
-    height: u16,
-    number: u32,
-) -> Result<(), AllocError> {
+fn begin_strip(text: &mut Vec<u8>, cells: u32, height: u16, number: u32) -> Result<(), AllocError> {
     let width = width_of(cells);
     print_numbered(text, b"<div class='f'><svg viewBox='0 0 ", width)?;
     print_numbered(text, b" ", u32::from(height))?;
@@ -187,12 +230,10 @@ fn begin_strip(
 }
 
 /// Returns the width of a strip with so many cells.
-fn width_of(cells: usize) -> u32 {
-    let mut width = NAMES_WIDTH;
-    for _cell in 0..cells {
-        width = width.saturating_add(CELL_WIDTH);
-    }
-    width.max(LEAST_WIDTH)
+fn width_of(cells: u32) -> u32 {
+    NAMES_WIDTH
+        .saturating_add(CELL_WIDTH.saturating_mul(cells))
+        .max(LEAST_WIDTH)
 }
 
 /// Appends the names of the lines of a strip.
