@@ -19,10 +19,6 @@ pub(crate) enum Kind {
     ExclusiveFlag(&'static str),
     /// An option with a text. It may occur more than once.
     Texts,
-    /// An option with a text.
-    Text,
-    /// An option with a text that excludes the word of this name.
-    ExclusiveText(&'static str),
     /// An option with a number, which is this one by default.
     Number(&'static str),
     /// An option with a number of states, 1 to 100,000,000, which is this one by default.
@@ -60,7 +56,7 @@ const FILE: Word = Word {
     help: "A configuration file; - is standard input",
 };
 
-/// The option `--json` of `check`, `cycles`, `explain` and `outcomes`.
+/// The option `--json` of `check`, `cycles` and `explain`.
 const JSON: Word = Word {
     name: "json",
     value: "",
@@ -121,27 +117,7 @@ static CYCLES: [Word; 5] = [
 ];
 
 /// The words of `bendrika trace`.
-static TRACE: [Word; 4] = [
-    FILE,
-    Word {
-        name: "EVENTS",
-        value: "A-B",
-        kind: Kind::Optional,
-        help: "Show events A to B, numbered from 1; all events if not given",
-    },
-    Word {
-        name: "polls",
-        value: "",
-        kind: Kind::Flag,
-        help: "Show the polls of slots that wait for the bus too",
-    },
-    Word {
-        name: "gtkw",
-        value: "",
-        kind: Kind::Flag,
-        help: "Print a save file of GTKWave, which groups the signals, instead of the waveforms",
-    },
-];
+static TRACE: [Word; 1] = [FILE];
 
 /// The words of `bendrika page`.
 static PAGE: [Word; 2] = [
@@ -180,7 +156,7 @@ static SERVE: [Word; 1] = [Word {
 }];
 
 /// The words of `bendrika outcomes`.
-static OUTCOMES: [Word; 9] = [
+static OUTCOMES: [Word; 6] = [
     FILE,
     Word {
         name: "never",
@@ -193,18 +169,6 @@ static OUTCOMES: [Word; 9] = [
         value: "TEXT",
         kind: Kind::Texts,
         help: "Fail if some outcome lacks one of these lines",
-    },
-    Word {
-        name: "lines",
-        value: "PLACES",
-        kind: Kind::Text,
-        help: "List only the replies to these lines, as 1:2,2:1, or to those of conditions",
-    },
-    Word {
-        name: "show",
-        value: "PLACES",
-        kind: Kind::ExclusiveText("lines"),
-        help: "Print the replies to these lines as a table, with a schedule each",
     },
     Word {
         name: "quiet",
@@ -224,7 +188,6 @@ static OUTCOMES: [Word; 9] = [
         kind: Kind::Flag,
         help: "Report on standard error when 10000, 100000, .. states are passed",
     },
-    JSON,
 ];
 
 /// The syntax of lines. `checks/explain` compares the forms with those of `docs/GUIDE.md`.
@@ -282,7 +245,7 @@ pub(crate) fn forms() -> [Form; 8] {
         Form {
             name: "outcomes",
             about: "List every outcome that some order of turns gives, each with a schedule",
-            end: "Status: 0 listed, 1 a condition fails, 2 wrong words or no configuration, 3 a fault, 4 too many states",
+            end: "Status: 0 listed, 1 a condition fails, 2 wrong words or no configuration, 3 a fault or too many states",
             words: OUTCOMES.as_slice(),
         },
         Form {

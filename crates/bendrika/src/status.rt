@@ -11,8 +11,6 @@ pub(crate) enum Status {
     WrongWords,
     /// An input or a device failed, or an allocation.
     Fault,
-    /// There are more states than the limit.
-    Limit,
 }
 
 impl Status {
@@ -23,7 +21,6 @@ impl Status {
             Status::Errors => 1,
             Status::WrongWords => 2,
             Status::Fault => 3,
-            Status::Limit => 4,
         }
     }
 }

@@ -3,8 +3,9 @@ ghost use Rattle.std.specs.Prelude.{◌≡◌, ◌<◌, ◌++◌, length, OnOk, 
 ghost use Rattle.vme_report.specs.Texts.{replies_text, is_blank, row_text, memory_text};
 ghost use Rattle.vme_script.specs.ReplyTexts.{line_text};
 ghost use Rattle.vme_shared.specs.declared.reply.LineReply.TheVariants.{Unfinished};
+ghost use Rattle.vme_line_task.specs.Traces.{ScriptState};
 ghost use Rattle.vme_stepper.specs.Reports.{numbered_replies};
-ghost use Rattle.vme_states.specs.BareStates.{BareScript, bare_outcome};
+ghost use Rattle.vme_states.specs.BareStates.{bare_outcome};
 ghost use Rattle.vme_outcome_listing.specs.Texts.{slots_of, scripts_text, memories_text, outcome_text};
 
 use std::alloc::AllocError;
@@ -53,7 +54,7 @@ fn append_script(
     text: &mut Vec<u8>,
 ) -> Result<(), AllocError>
     requires { board < length state.now.script_states }
-    ensures { OnOk result ((c : BareScript) → slice_get state.now.script_states board ≡ Some c →
+    ensures { OnOk result ((c : ScriptState) → slice_get state.now.script_states board ≡ Some c →
         text.new.items ≡ text.old.items ++ replies_text slot (numbered_replies script.now c.ended)) }
 {
     for line in 0..script.len() {
@@ -63,7 +64,7 @@ fn append_script(
 }
 
 /// Appends the line for the reply to a line of a script.
-pub(crate) fn append_reply(
+fn append_reply(
     slot: u16,
     number: u16,
     reply: Option<&LineReply>,

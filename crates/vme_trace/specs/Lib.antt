@@ -8,10 +8,7 @@ pub mod Bus
 pub mod Ports
 pub mod Slots
 pub mod Events
-pub mod Shown
-pub mod Values
-pub mod Selections
 pub mod Headers
-pub mod Dumps
+pub mod Shown
 pub mod Turns
 pub mod Traces

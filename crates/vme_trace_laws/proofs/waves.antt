@@ -15,4 +15,3 @@ pub mod EventLines
 pub mod Rules
 pub mod EventEnds
 pub mod SlotEnds
-pub mod Polls

@@ -1,5 +1,4 @@
 //! Findings with the bytes where they are.
-use crate::report::Form;
 use std::alloc::{AllocError, Global};
 use vme_faults::{Cause, Finding, Severity};
 use vme_positions::{Outline, Place, Span};
@@ -58,17 +57,8 @@ impl<'a> Input<'a> {
         }
     }
 
-    /// A finding with the bytes of its place.
-    pub(crate) fn located(&self, finding: Finding, is_first: bool) -> Located {
-        Located {
-            finding,
-            span: self.span(finding.place),
-            is_first,
-        }
-    }
-
-    /// Those of the findings that are printed, in the order of their places; at one place in the
-    /// order of their codes. The first finding is kept, as the last if it is past the limit.
+    /// The findings in the order of their places; at one place in the order of their codes. With
+    /// `no_warnings` only errors.
     ///
     /// # Errors
     ///
@@ -77,32 +67,20 @@ impl<'a> Input<'a> {
         &self,
         alloc: Global,
         findings: &[Finding],
-        form: &Form,
+        no_warnings: bool,
     ) -> Result<Vec<Located>, AllocError> {
-        let most = form.most();
-        let full = most.saturating_mul(2);
-        let mut located = Vec::new(alloc);
+        let mut located = Vec::with_capacity(alloc, findings.len())?;
         for (at, finding) in findings.iter().enumerate() {
-            if form.shows(finding.cause) {
-                located.push(self.located(*finding, at == 0))?;
-            }
-            if full <= located.len() {
-                keep(&mut located, most)?;
+            let one = Located {
+                finding: *finding,
+                span: self.span(finding.place),
+                is_first: at == 0,
+            };
+            if !no_warnings || one.is_error() {
+                located.push(one)?;
             }
         }
-        keep(&mut located, most)?;
+        located.sort_by_key(|one: &Located| (one.span.from, one.finding.cause.code()))?;
         Ok(located)
     }
-}
-
-/// Sorts findings, and keeps the first ones: at most `most`, and the first finding of the input.
-fn keep(located: &mut Vec<Located>, most: usize) -> Result<(), AllocError> {
-    located.sort_by_key(|one: &Located| (one.span.from, one.finding.cause.code()))?;
-    let first = located.iter().skip(most).find(|one| one.is_first).copied();
-    located.truncate(most);
-    if let Some(first) = first {
-        located.truncate(most.saturating_sub(1));
-        located.push(first)?;
-    }
-    Ok(())
 }

@@ -83,8 +83,7 @@ pub(crate) fn table_name(table: TableName) -> &'static str {
     }
 }
 
-/// Returns the command of one or two letters that a word is meant for: the word in small letters, or
-/// what other tools call the command.
+/// Returns the command of one or two letters that is a word in small letters.
 pub(crate) fn short_command(word: &[u8]) -> Option<&'static str> {
     for (capital, command) in [
         (&b"R"[..], "r"),
@@ -96,12 +95,6 @@ pub(crate) fn short_command(word: &[u8]) -> Option<&'static str> {
         (&b"LR"[..], "lr"),
         (&b"LW"[..], "lw"),
         (&b"LM"[..], "lm"),
-        (&b"RD"[..], "r"),
-        (&b"READ"[..], "r"),
-        (&b"WR"[..], "w"),
-        (&b"WRITE"[..], "w"),
-        (&b"RMW"[..], "m"),
-        (&b"MODIFY"[..], "m"),
     ] {
         if word.eq_ignore_ascii_case(capital) {
             return Some(command);
