@@ -6,8 +6,9 @@ complete -c bendrika -n __fish_use_subcommand -f -a serve -d 'Answer lines `SLOT
 complete -c bendrika -n __fish_use_subcommand -f -a outcomes -d 'List every outcome that some order of turns gives, each with a schedule'
 complete -c bendrika -n __fish_use_subcommand -f -a trace -d 'Write the waveforms of the run of vme step, as a value change dump (VCD)'
 complete -c bendrika -n __fish_use_subcommand -f -a page -d 'Write timing diagrams of the run of vme step, and its report, as a page of HTML'
+complete -c bendrika -n __fish_use_subcommand -f -a lines -d 'Show the syntax of request lines and of script lines'
 complete -c bendrika -n __fish_use_subcommand -f -a help -d 'Print this message or the help of the given subcommand(s)'
-complete -c bendrika -n '__fish_seen_subcommand_from help' -f -a 'check explain cycles serve outcomes trace page'
+complete -c bendrika -n '__fish_seen_subcommand_from help' -f -a 'check explain cycles serve outcomes trace page lines'
 complete -c bendrika -n '__fish_seen_subcommand_from check' -l json -d 'Print one JSON object a line'
 complete -c bendrika -n '__fish_seen_subcommand_from check' -s q -l quiet -d 'Print no finding; the status says whether there is an error'
 complete -c bendrika -n '__fish_seen_subcommand_from check' -l no-warnings -d 'Report errors alone'
@@ -31,3 +32,5 @@ complete -c bendrika -n '__fish_seen_subcommand_from outcomes' -l progress -d 'R
 complete -c bendrika -n '__fish_seen_subcommand_from outcomes' -s h -l help -d 'Print help'
 complete -c bendrika -n '__fish_seen_subcommand_from trace' -s h -l help -d 'Print help'
 complete -c bendrika -n '__fish_seen_subcommand_from page' -s h -l help -d 'Print help'
+complete -c bendrika -n '__fish_seen_subcommand_from lines' -f
+complete -c bendrika -n '__fish_seen_subcommand_from lines' -s h -l help -d 'Print help'
