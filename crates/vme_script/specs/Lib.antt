@@ -6,6 +6,7 @@ pub mod Declarations
 pub mod Contexts
 pub mod Answers
 pub mod Causes
+pub mod CauseRules
 pub mod Boards
 pub mod Arbiters
 pub mod Schedules

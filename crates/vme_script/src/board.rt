@@ -1,11 +1,13 @@
 //! The boards of a configuration, and the rules for each of their values.
-ghost use Rattle.std.specs.Prelude.{◌≡◌, ◌≤◌, ◌+◌, ◌%◌, nat_lt, nat_le, not, ◌==◌, ◌&&◌, length, true, IfOk};
+ghost use Rattle.std.specs.Prelude.{◌≡◌, ◌≤◌, ◌+◌, ◌-◌, ◌%◌, nat_lt, nat_le, not, ◌==◌, ◌&&◌, length, true, IfOk};
 ghost use Rattle.std.specs.Option.{ok_or};
 ghost use Rattle.vme_am.specs.Spaces.{addresses_of};
 ghost use Rattle.vme_memory.specs.Boards.{is_board_size};
 ghost use Rattle.vme_script.specs.declared.fault.ConfigFault.TheVariants.{BadSlot, BadLevel, BadWord, BadSize, Misaligned, OutsideSpace};
 ghost use Rattle.vme_script.specs.Answers.{Gives, refuse};
+ghost use Rattle.vme_script.specs.declared.cause.board.BoardCause.TheVariants.{LevelRange, NoSpace, NoWidth, UnalignedWidth, BaseNotAligned, OutsideSpace as PastSpace};
 ghost use Rattle.vme_script.specs.Causes.{board_refusal, refused_as};
+ghost use Rattle.vme_script.specs.CauseRules.{cause_if, slot_rule, size_rule};
 ghost use Rattle.vme_script.specs.Boards.{space_named, width_of, entry_of, class_of, range_refused, entries_of, map_of, board_config, boards_after, have_ranges};
 
 use crate::cause::BoardCause;
@@ -33,8 +35,9 @@ pub struct BoardConfig {
 /// Checks a slot: it is from 1 to 21, and above `before`, the slot of the board with index `other`,
 /// or 0 if there is none.
 pub fn check_slot(before: u32, other: usize, slot: u32) -> Result<(), BoardCause>
-    ensures { refused_as board_refusal result ≡
+    ensures refusal { refused_as board_refusal result ≡
         refuse (not (nat_lt before slot && nat_le slot 21)) BadSlot }
+    ensures cause { result ≡ slot_rule before other slot }
 {
     if slot < 1 || slot > LAST_SLOT {
         return Err(BoardCause::SlotRange { slot });
@@ -54,7 +57,8 @@ pub fn check_slot(before: u32, other: usize, slot: u32) -> Result<(), BoardCause
 
 /// Checks a request level: it is at most 3.
 pub fn check_level(level: u32) -> Result<(), BoardCause>
-    ensures { refused_as board_refusal result ≡ refuse (nat_lt 3 level) BadLevel }
+    ensures refusal { refused_as board_refusal result ≡ refuse (nat_lt 3 level) BadLevel }
+    ensures cause { result ≡ cause_if (nat_lt 3 level) (LevelRange level) }
 {
     if level > LAST_LEVEL {
         return Err(BoardCause::LevelRange { level });
@@ -65,7 +69,8 @@ pub fn check_level(level: u32) -> Result<(), BoardCause>
 /// Returns the address space that `word` names.
 #[tactic(auto, unfolding(crate::specs::Boards::space_named))]
 pub fn space_named(word: &str) -> Result<Space, BoardCause>
-    ensures { refused_as board_refusal result ≡ ok_or (space_named word.now) BadWord }
+    ensures refusal { refused_as board_refusal result ≡ ok_or (space_named word.now) BadWord }
+    ensures cause { result ≡ ok_or (space_named word.now) NoSpace }
 {
     match word {
         "a16" => Ok(Space::A16),
@@ -78,7 +83,8 @@ pub fn space_named(word: &str) -> Result<Space, BoardCause>
 /// Returns the width of a slave with this number of data lines.
 #[tactic(auto, unfolding(crate::specs::Boards::width_of))]
 pub fn width_of(lines: u32) -> Result<Width8To32, BoardCause>
-    ensures { refused_as board_refusal result ≡ ok_or (width_of lines) BadWord }
+    ensures refusal { refused_as board_refusal result ≡ ok_or (width_of lines) BadWord }
+    ensures cause { result ≡ ok_or (width_of lines) (NoWidth lines) }
 {
     match lines {
         8 => Ok(Width8To32::D08),
@@ -90,7 +96,8 @@ pub fn width_of(lines: u32) -> Result<Width8To32, BoardCause>
 
 /// Checks that only a slave of 32 data lines has unaligned transfers.
 pub fn check_unaligned(uat: bool, width: u32) -> Result<(), BoardCause>
-    ensures { refused_as board_refusal result ≡ refuse (uat && not (width == 32)) BadWord }
+    ensures refusal { refused_as board_refusal result ≡ refuse (uat && not (width == 32)) BadWord }
+    ensures cause { result ≡ cause_if (uat && not (width == 32)) (UnalignedWidth width) }
 {
     if uat && width != 32 {
         return Err(BoardCause::UnalignedWidth { width });
@@ -100,12 +107,13 @@ pub fn check_unaligned(uat: bool, width: u32) -> Result<(), BoardCause>
 
 /// Checks the number of bytes of a board: it is from 4 to 1,048,576, and a multiple of four.
 pub fn check_size(size: u32) -> Result<(), BoardCause>
-    ensures { refused_as board_refusal result ≡ refuse (not (is_board_size size)) BadSize }
+    ensures refusal { refused_as board_refusal result ≡ refuse (not (is_board_size size)) BadSize }
+    ensures cause { result ≡ size_rule size }
 {
     if ByteMemory::is_size(size) {
         return Ok(());
     }
-    if size % 4 != 0 && ByteMemory::is_size((size | 3).saturating_add(1)) {
+    if size % 4 != 0 && ByteMemory::is_size((size - size % 4).saturating_add(4)) {
         return Err(BoardCause::SizeNotAligned { size });
     }
     Err(BoardCause::SizeRange { size })
@@ -113,7 +121,8 @@ pub fn check_size(size: u32) -> Result<(), BoardCause>
 
 /// Checks the first address of a board: it is a multiple of four.
 pub fn check_base(base: u32) -> Result<(), BoardCause>
-    ensures { refused_as board_refusal result ≡ refuse (not (base % 4 == 0)) Misaligned }
+    ensures refusal { refused_as board_refusal result ≡ refuse (not (base % 4 == 0)) Misaligned }
+    ensures cause { result ≡ cause_if (not (base % 4 == 0)) (BaseNotAligned base) }
 {
     if base % 4 != 0 {
         return Err(BoardCause::BaseNotAligned { base });
@@ -123,8 +132,10 @@ pub fn check_base(base: u32) -> Result<(), BoardCause>
 
 /// Checks that `size` bytes from `base` on end within a space.
 pub fn check_end(space: Space, base: u32, size: u32) -> Result<(), BoardCause>
-    ensures { refused_as board_refusal result ≡
+    ensures refusal { refused_as board_refusal result ≡
         refuse (nat_lt (addresses_of space) (base + size)) OutsideSpace }
+    ensures cause { result ≡
+        cause_if (nat_lt (addresses_of space) (base + size)) (PastSpace space (base + size - 1)) }
 {
     let end = u64::from(base) + u64::from(size);
     if end > space.addresses() {

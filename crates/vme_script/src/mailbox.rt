@@ -1,11 +1,13 @@
 //! The rules for a mailbox: its numbers, its bytes, and its board.
-ghost use Rattle.std.specs.Prelude.{◌≡◌, ◌<◌, ◌%◌, nat_le, not, ◌==◌, ◌&&◌, length, IfOk};
+ghost use Rattle.std.specs.Prelude.{◌≡◌, ◌<◌, ◌-◌, ◌%◌, nat_le, not, ◌==◌, ◌&&◌, length, IfOk};
 ghost use Rattle.std.specs.Option.{ok_or};
 ghost use Rattle.std.specs.List.{list_any};
 ghost use Rattle.vme_memory.specs.Classes.{answers_quads};
 ghost use Rattle.vme_script.specs.declared.fault.ConfigFault.TheVariants.{BadMailbox};
 ghost use Rattle.vme_script.specs.Answers.{refuse};
+ghost use Rattle.vme_script.specs.declared.cause.mailbox.MailboxCause.TheVariants.{CodeRange, AddressNotAligned, SlotsRange, TooLong, NarrowBoard, NoModify};
 ghost use Rattle.vme_script.specs.Causes.{mailbox_refusal, refused_as};
+ghost use Rattle.vme_script.specs.CauseRules.{cause_if, lines_of};
 ghost use Rattle.vme_script.specs.MailboxTables.{is_mailbox_code, mailbox_from_table, supports_mailboxes};
 ghost use Rattle.vme_script.specs.BoardRanges.{range_of, is_within, share};
 
@@ -20,7 +22,8 @@ use vme_shared::Mailbox;
 
 /// Checks the code of a mailbox: it is one of data or short access.
 pub fn check_code(am: u32) -> Result<(), MailboxCause>
-    ensures { refused_as mailbox_refusal result ≡ refuse (not (is_mailbox_code am)) BadMailbox }
+    ensures refusal { refused_as mailbox_refusal result ≡ refuse (not (is_mailbox_code am)) BadMailbox }
+    ensures cause { result ≡ cause_if (not (is_mailbox_code am)) (CodeRange am) }
 {
     match am {
         0x09 | 0x0d | 0x29 | 0x2d | 0x39 | 0x3d => Ok(()),
@@ -30,7 +33,8 @@ pub fn check_code(am: u32) -> Result<(), MailboxCause>
 
 /// Checks the address of a mailbox: it is a multiple of four.
 pub fn check_address(addr: u32) -> Result<(), MailboxCause>
-    ensures { refused_as mailbox_refusal result ≡ refuse (not (addr % 4 == 0)) BadMailbox }
+    ensures refusal { refused_as mailbox_refusal result ≡ refuse (not (addr % 4 == 0)) BadMailbox }
+    ensures cause { result ≡ cause_if (not (addr % 4 == 0)) (AddressNotAligned addr) }
 {
     if addr % 4 != 0 {
         return Err(MailboxCause::AddressNotAligned { addr });
@@ -40,8 +44,9 @@ pub fn check_address(addr: u32) -> Result<(), MailboxCause>
 
 /// Checks the number of slots of a mailbox: it is from 1 to 64.
 pub fn check_slots(slots: u32) -> Result<(), MailboxCause>
-    ensures { refused_as mailbox_refusal result ≡
+    ensures refusal { refused_as mailbox_refusal result ≡
         refuse (not (nat_le 1 slots && nat_le slots 64)) BadMailbox }
+    ensures cause { result ≡ cause_if (not (nat_le 1 slots && nat_le slots 64)) (SlotsRange slots) }
 {
     if slots < 1 || slots > MOST_MAILBOX_SLOTS {
         return Err(MailboxCause::SlotsRange { slots });
@@ -106,7 +111,9 @@ pub fn check_inside(
     board: BoardName,
     size: u32,
 ) -> Result<(), MailboxCause>
-    ensures { refused_as mailbox_refusal result ≡ refuse (not (is_within place size)) BadMailbox }
+    ensures refusal { refused_as mailbox_refusal result ≡ refuse (not (is_within place size)) BadMailbox }
+    ensures cause { result ≡ cause_if (not (is_within place size))
+        (TooLong mailbox.slots place.len board (size - place.offset)) }
 {
     if !place.is_within(size) {
         return Err(MailboxCause::TooLong {
@@ -121,7 +128,8 @@ pub fn check_inside(
 
 /// Checks that the board of this name, which has a slave of this width, has quad bytes.
 pub fn check_width(board: BoardName, width: Width8To32) -> Result<(), MailboxCause>
-    ensures { refused_as mailbox_refusal result ≡ refuse (not (answers_quads width)) BadMailbox }
+    ensures refusal { refused_as mailbox_refusal result ≡ refuse (not (answers_quads width)) BadMailbox }
+    ensures cause { result ≡ cause_if (not (answers_quads width)) (NarrowBoard board (lines_of width)) }
 {
     match width {
         Width8To32::D08 => Err(MailboxCause::NarrowBoard { board, width: 8 }),
@@ -132,7 +140,8 @@ pub fn check_width(board: BoardName, width: Width8To32) -> Result<(), MailboxCau
 
 /// Checks that the board of this name has read-modify-writes.
 pub fn check_modify(board: BoardName, rmw: bool) -> Result<(), MailboxCause>
-    ensures { refused_as mailbox_refusal result ≡ refuse (not rmw) BadMailbox }
+    ensures refusal { refused_as mailbox_refusal result ≡ refuse (not rmw) BadMailbox }
+    ensures cause { result ≡ cause_if (not rmw) (NoModify board) }
 {
     if rmw {
         return Ok(());

@@ -2,7 +2,9 @@
 ghost use Rattle.std.specs.Prelude.{◌≡◌, ◌≤◌, nat_lt, length, IfOk};
 ghost use Rattle.vme_script.specs.declared.fault.ConfigFault.TheVariants.{BadMailbox};
 ghost use Rattle.vme_script.specs.Answers.{Gives, refuse};
+ghost use Rattle.vme_script.specs.declared.cause.mailbox.MailboxCause.TheVariants.{TooManyMailboxes};
 ghost use Rattle.vme_script.specs.Causes.{mailbox_refusal, refused_as};
+ghost use Rattle.vme_script.specs.CauseRules.{cause_if};
 ghost use Rattle.vme_script.specs.Boards.{entries_of};
 ghost use Rattle.vme_script.specs.MailboxRefusals.{declared_mailbox, mailboxes_of};
 
@@ -19,7 +21,8 @@ use vme_shared::Mailbox;
 
 /// Checks the number of mailboxes: it is at most 16.
 pub fn check_count(mailboxes: usize) -> Result<(), MailboxCause>
-    ensures { refused_as mailbox_refusal result ≡ refuse (nat_lt 16 mailboxes) BadMailbox }
+    ensures refusal { refused_as mailbox_refusal result ≡ refuse (nat_lt 16 mailboxes) BadMailbox }
+    ensures cause { result ≡ cause_if (nat_lt 16 mailboxes) (TooManyMailboxes mailboxes) }
 {
     if mailboxes > MOST_MAILBOXES {
         return Err(MailboxCause::TooManyMailboxes { mailboxes });

@@ -2,7 +2,9 @@
 ghost use Rattle.std.specs.Prelude.{◌≡◌, nat_le, not, ◌&&◌, is_some, IfSome};
 ghost use Rattle.vme_script.specs.declared.fault.ConfigFault.TheVariants.{BadSchedule};
 ghost use Rattle.vme_script.specs.Answers.{Gives, refuse};
+ghost use Rattle.vme_script.specs.declared.cause.schedule.ScheduleCause.TheVariants.{TriesRange, RoundsRange};
 ghost use Rattle.vme_script.specs.Causes.{schedule_refusal, refused_as};
+ghost use Rattle.vme_script.specs.CauseRules.{cause_if};
 ghost use Rattle.vme_script.specs.Schedules.{has_slot, lawful_schedule, schedule_of};
 
 use crate::board::BoardConfig;
@@ -14,8 +16,9 @@ use vme_config_toml::FileTable;
 
 /// Checks the number of tries: it is from 1 to 1,000,000.
 pub fn check_tries(tries: u32) -> Result<(), ScheduleCause>
-    ensures { refused_as schedule_refusal result ≡
+    ensures refusal { refused_as schedule_refusal result ≡
         refuse (not (nat_le 1 tries && nat_le tries 1000000)) BadSchedule }
+    ensures cause { result ≡ cause_if (not (nat_le 1 tries && nat_le tries 1000000)) (TriesRange tries) }
 {
     if tries < 1 || tries > MOST_TURNS {
         return Err(ScheduleCause::TriesRange { tries });
@@ -25,7 +28,8 @@ pub fn check_tries(tries: u32) -> Result<(), ScheduleCause>
 
 /// Checks the number of rounds: it is at most 1,000,000.
 pub fn check_rounds(rounds: u32) -> Result<(), ScheduleCause>
-    ensures { refused_as schedule_refusal result ≡ refuse (not (nat_le rounds 1000000)) BadSchedule }
+    ensures refusal { refused_as schedule_refusal result ≡ refuse (not (nat_le rounds 1000000)) BadSchedule }
+    ensures cause { result ≡ cause_if (not (nat_le rounds 1000000)) (RoundsRange rounds) }
 {
     if rounds > MOST_TURNS {
         return Err(ScheduleCause::RoundsRange { rounds });
