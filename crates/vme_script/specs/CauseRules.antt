@@ -17,7 +17,7 @@ slot_rule before other slot =
     if nat_lt slot 1 || nat_lt 21 slot then Err (SlotRange slot) else
     (if slot == before then Err (SlotTaken slot other) else cause_if (nat_lt slot before) (SlotOrder slot before other))
 
--- the rule for a board's number of bytes: the cause tells a number that the next multiple of four would mend
+-- the rule for a board's number of bytes: the cause says whether the next multiple of four would be one
 abbrev pub size_rule : ℕ → Result (Unit {0}) BoardCause
 size_rule size =
     if is_board_size size then Ok tt else
