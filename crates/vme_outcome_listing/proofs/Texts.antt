@@ -10,7 +10,7 @@ use Rattle.vme_script.specs.ReplyTexts.{line_text}
 use Rattle.vme_script.specs.declared.script.ScriptLine.{ScriptLine}
 use Rattle.vme_shared.specs.declared.reply.LineReply.{LineReply}
 use Rattle.vme_shared.specs.declared.reply.LineReply.TheVariants.{Unfinished}
-use Rattle.vme_line_task.specs.Traces.{ScriptState}
+use Rattle.vme_states.specs.BareStates.{BareScript}
 use Rattle.vme_stepper.specs.Reports.{numbered_replies}
 use Rattle.vme_outcome_listing.specs.Texts.{scripts_text, memories_text}
 use Rattle.vme_outcome_listing.proofs.Outputs.{one_more}
@@ -92,10 +92,10 @@ replies_next slot script ended j number found =
     ]
 
 -- the replies of the script state at an index
-ended_at : (states : List ScriptState) (i : ℕ) (c : ScriptState) → slice_get states i ≡ Some c
-    → slice_get (map (λ (s : ScriptState). s.ended) states) i ≡ Some c.ended
+ended_at : (states : List BareScript) (i : ℕ) (c : BareScript) → slice_get states i ≡ Some c
+    → slice_get (map (λ (s : BareScript). s.ended) states) i ≡ Some c.ended
 ended_at states i c found =
-    slice_get-map (λ (s : ScriptState). s.ended) states i ∙ ap (option_map (λ (s : ScriptState). s.ended)) found
+    slice_get-map (λ (s : BareScript). s.ended) states i ∙ ap (option_map (λ (s : BareScript). s.ended)) found
 
 -- the bytes of the memory at an index
 bytes_at : (boards : List Board) (i : ℕ) (board : Board) → slice_get boards i ≡ Some board
@@ -109,19 +109,19 @@ past_images f xs i P (inl p) = inl p
 past_images f xs i P (inr past) = inr (omega (arith, length-map xs f, past))
 
 -- the text of one script more
-pub scripts_step : (slots : List ℕ) (scripts : List (List ScriptLine)) (states : List ScriptState) (i slot : ℕ) (script : List ScriptLine) (before after whole : List ℕ)
+pub scripts_step : (slots : List ℕ) (scripts : List (List ScriptLine)) (states : List BareScript) (i slot : ℕ) (script : List ScriptLine) (before after whole : List ℕ)
     → i < length states → slice_get slots i ≡ Some slot → slice_get scripts i ≡ Some script
-    → ((c : ScriptState) → slice_get states i ≡ Some c → after ≡ before ++ replies_text slot (numbered_replies script c.ended))
-    → before ++ scripts_text (drop i slots) (drop i scripts) (drop i (map (λ (s : ScriptState). s.ended) states)) ≡ whole
-    → after ++ scripts_text (drop (i + 1) slots) (drop (i + 1) scripts) (drop (i + 1) (map (λ (s : ScriptState). s.ended) states)) ≡ whole
+    → ((c : BareScript) → slice_get states i ≡ Some c → after ≡ before ++ replies_text slot (numbered_replies script c.ended))
+    → before ++ scripts_text (drop i slots) (drop i scripts) (drop i (map (λ (s : BareScript). s.ended) states)) ≡ whole
+    → after ++ scripts_text (drop (i + 1) slots) (drop (i + 1) scripts) (drop (i + 1) (map (λ (s : BareScript). s.ended) states)) ≡ whole
 scripts_step slots scripts states i slot script before after whole less at_slot at_script added so_far =
     elim (slice_get_cases states i).1 [
       | inl at ↦
           one_more before after (replies_text slot (numbered_replies script at.0.ended))
-          (scripts_text (drop (i + 1) slots) (drop (i + 1) scripts) (drop (i + 1) (map (λ (s : ScriptState). s.ended) states)))
-          (scripts_text (drop i slots) (drop i scripts) (drop i (map (λ (s : ScriptState). s.ended) states)))
+          (scripts_text (drop (i + 1) slots) (drop (i + 1) scripts) (drop (i + 1) (map (λ (s : BareScript). s.ended) states)))
+          (scripts_text (drop i slots) (drop i scripts) (drop i (map (λ (s : BareScript). s.ended) states)))
           whole (added at.0 at.2)
-          (scripts_next slots scripts (map (λ (s : ScriptState). s.ended) states) i slot script at.0.ended at_slot at_script (ended_at states i at.0 at.2))
+          (scripts_next slots scripts (map (λ (s : BareScript). s.ended) states) i slot script at.0.ended at_slot at_script (ended_at states i at.0 at.2))
           so_far
       | inr past ↦ absurd (omega (arith, past.0, less))
     ]
@@ -138,12 +138,12 @@ memories_step slots boards i slot board before after whole at_slot at_board adde
     (memories_next slots (map (λ (b : Board). b.bytes) boards) i slot board.bytes at_slot (bytes_at boards i board at_board)) so_far
 
 -- past the last script, or the last one with a state, the text is whole
-pub scripts_done : (slots : List ℕ) (scripts : List (List ScriptLine)) (states : List ScriptState) (i : ℕ) (text whole : List ℕ)
+pub scripts_done : (slots : List ℕ) (scripts : List (List ScriptLine)) (states : List BareScript) (i : ℕ) (text whole : List ℕ)
     → (length slots ≤ i) ⊎ (length states ≤ i)
-    → text ++ scripts_text (drop i slots) (drop i scripts) (drop i (map (λ (s : ScriptState). s.ended) states)) ≡ whole → text ≡ whole
+    → text ++ scripts_text (drop i slots) (drop i scripts) (drop i (map (λ (s : BareScript). s.ended) states)) ≡ whole → text ≡ whole
 scripts_done slots scripts states i text whole past so_far =
     sym (append-nil text)
-    ∙ ap (λ (t : List ℕ). text ++ t) (sym (scripts_over slots scripts (map (λ (s : ScriptState). s.ended) states) i (past_images (λ (s : ScriptState). s.ended) states i (length slots ≤ i) past)))
+    ∙ ap (λ (t : List ℕ). text ++ t) (sym (scripts_over slots scripts (map (λ (s : BareScript). s.ended) states) i (past_images (λ (s : BareScript). s.ended) states i (length slots ≤ i) past)))
     ∙ so_far
 
 -- past the last memory the text is whole

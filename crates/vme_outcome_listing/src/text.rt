@@ -3,9 +3,8 @@ ghost use Rattle.std.specs.Prelude.{◌≡◌, ◌<◌, ◌++◌, length, OnOk, 
 ghost use Rattle.vme_report.specs.Texts.{replies_text, is_blank, row_text, memory_text};
 ghost use Rattle.vme_script.specs.ReplyTexts.{line_text};
 ghost use Rattle.vme_shared.specs.declared.reply.LineReply.TheVariants.{Unfinished};
-ghost use Rattle.vme_line_task.specs.Traces.{ScriptState};
 ghost use Rattle.vme_stepper.specs.Reports.{numbered_replies};
-ghost use Rattle.vme_states.specs.BareStates.{bare_outcome};
+ghost use Rattle.vme_states.specs.BareStates.{BareScript, bare_outcome};
 ghost use Rattle.vme_outcome_listing.specs.Texts.{slots_of, scripts_text, memories_text, outcome_text};
 
 use std::alloc::AllocError;
@@ -54,7 +53,7 @@ fn append_script(
     text: &mut Vec<u8>,
 ) -> Result<(), AllocError>
     requires { board < length state.now.script_states }
-    ensures { OnOk result ((c : ScriptState) → slice_get state.now.script_states board ≡ Some c →
+    ensures { OnOk result ((c : BareScript) → slice_get state.now.script_states board ≡ Some c →
         text.new.items ≡ text.old.items ++ replies_text slot (numbered_replies script.now c.ended)) }
 {
     for line in 0..script.len() {
