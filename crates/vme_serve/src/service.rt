@@ -98,8 +98,12 @@ impl<'a> Service<'a> {
 
     /// Makes one attempt at a line of a board's processor, and returns its reply: `Unfinished` if no
     /// more calls can be counted before its end.
+    ///
+    /// # Errors
+    ///
+    /// `AllocError`: an allocation failed before the line's first call.
     #[tactic(auto, unfolding(crate::specs::Services::line_served))]
-    fn reply_to(&mut self, board: usize, line: &Line) -> Result<LineReply, AllocError>
+    pub fn reply_to(&mut self, board: usize, line: &Line) -> Result<LineReply, AllocError>
         requires board { board < length self.old.config.boards }
         requires mailbox { HasItsMailbox self.old.config line.now }
         ensures reply { IfOk result (λ reply. reply ≡ (line_served self.old board line.now).reply) }
