@@ -19,6 +19,10 @@ pub(crate) enum Kind {
     ExclusiveFlag(&'static str),
     /// An option with a text. It may occur more than once.
     Texts,
+    /// An option with a text.
+    Text,
+    /// An option with a text that excludes the word of this name.
+    ExclusiveText(&'static str),
     /// An option with a number, which is this one by default.
     Number(&'static str),
     /// An option with a number of states, 1 to 100,000,000, which is this one by default.
@@ -56,7 +60,7 @@ const FILE: Word = Word {
     help: "A configuration file; - is standard input",
 };
 
-/// The option `--json` of `check`, `cycles` and `explain`.
+/// The option `--json` of `check`, `cycles`, `explain` and `outcomes`.
 const JSON: Word = Word {
     name: "json",
     value: "",
@@ -156,7 +160,7 @@ static SERVE: [Word; 1] = [Word {
 }];
 
 /// The words of `bendrika outcomes`.
-static OUTCOMES: [Word; 6] = [
+static OUTCOMES: [Word; 9] = [
     FILE,
     Word {
         name: "never",
@@ -169,6 +173,18 @@ static OUTCOMES: [Word; 6] = [
         value: "TEXT",
         kind: Kind::Texts,
         help: "Fail if some outcome lacks one of these lines",
+    },
+    Word {
+        name: "lines",
+        value: "PLACES",
+        kind: Kind::Text,
+        help: "List only the replies to these lines, as 1:2,2:1, or to those of conditions",
+    },
+    Word {
+        name: "show",
+        value: "PLACES",
+        kind: Kind::ExclusiveText("lines"),
+        help: "Print the replies to these lines as a table, with a schedule each",
     },
     Word {
         name: "quiet",
@@ -188,6 +204,7 @@ static OUTCOMES: [Word; 6] = [
         kind: Kind::Flag,
         help: "Report on standard error when 10000, 100000, .. states are passed",
     },
+    JSON,
 ];
 
 /// The syntax of lines. `checks/explain` compares the forms with those of `docs/GUIDE.md`.
@@ -245,7 +262,7 @@ pub(crate) fn forms() -> [Form; 8] {
         Form {
             name: "outcomes",
             about: "List every outcome that some order of turns gives, each with a schedule",
-            end: "Status: 0 listed, 1 a condition fails, 2 wrong words or no configuration, 3 a fault or too many states",
+            end: "Status: 0 listed, 1 a condition fails, 2 wrong words or no configuration, 3 a fault, 4 too many states",
             words: OUTCOMES.as_slice(),
         },
         Form {

@@ -6,15 +6,17 @@
 //! `bendrika trace` writes the waveforms of its run, `bendrika page` a page with its timing diagrams,
 //! and `bendrika lines` shows the syntax of lines. The exit status is 0; 1 after errors in an input
 //! or if a condition fails; 2 for wrong words, or a file of `outcomes`, `page` or `trace` that is no
-//! configuration; 3 after a fault.
+//! configuration; 3 after a fault; 4 if there are more states than the limit.
 #![tactic(auto)]
 
 mod check;
 mod explain;
 mod fault;
 mod forms;
+mod gathered;
 mod input;
 mod outcomes;
+mod outcomes_json;
 mod page;
 mod serve;
 mod status;

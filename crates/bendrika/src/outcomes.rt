@@ -1,6 +1,8 @@
 //! `bendrika outcomes`.
-use crate::fault::Fault;
+use crate::fault::{Fault, printed};
+use crate::gathered::Gathered;
 use crate::input::{STANDARD_INPUT, name_of, read_file, refuse};
+use crate::outcomes_json::{json_limit, json_of};
 use crate::status::Status;
 use clap::ArgMatches;
 use std::alloc::{AllocError, Global};
@@ -8,7 +10,7 @@ use std::io;
 use vme_check::shown_name;
 use vme_engines::ProgramFault;
 use vme_io::{Io, SliceSource};
-use vme_outcome_listing::{Asked, Condition, Kind, OutcomesFault, outcomes_engine};
+use vme_outcome_listing::{Asked, Condition, Form, Kept, Kind, OutcomesFault, outcomes_engine};
 use vme_script::{Config, Line};
 
 /// The numbers of states at which a search says how far it is, if the words ask for it.
@@ -19,6 +21,14 @@ const STAGES: [usize; 4] = [10_000, 100_000, 1_000_000, 10_000_000];
 struct Stated<'a> {
     conditions: Vec<Condition<'a>>,
     texts: Vec<&'a str>,
+}
+
+/// What is searched, and how the outcomes are printed.
+struct Search<'a> {
+    name: &'a str,
+    asked: &'a Asked<'a>,
+    json: bool,
+    file: &'a [u8],
 }
 
 /// Returns the conditions that the words state: first those of `--never`.
@@ -36,21 +46,47 @@ fn conditions_of<'a>(alloc: Global, words: &'a ArgMatches<'_>) -> Result<Stated<
     Ok(Stated { conditions, texts })
 }
 
+/// Returns the lines that the words ask for, and how an outcome is printed.
+fn kept_of(
+    alloc: Global,
+    words: &ArgMatches<'_>,
+    conditions: &[Condition<'_>],
+) -> Result<(Option<Kept>, Form), AllocError> {
+    if let Some(text) = words.get_str("show") {
+        let form = if words.get_flag("json") {
+            Form::Paragraphs
+        } else {
+            Form::Table
+        };
+        return Ok((Some(Kept::lines(alloc, text, false)?), form));
+    }
+    let kept = match words.get_str("lines") {
+        None => None,
+        Some("conditions") => Some(Kept::lines_of(alloc, conditions)?),
+        Some(text) => Some(Kept::lines(alloc, text, true)?),
+    };
+    Ok((kept, Form::Paragraphs))
+}
+
 /// Lists the outcomes of the configuration file that the words name.
 pub(crate) fn listed(rt: &HostRuntime, words: &ArgMatches<'_>) -> Result<Status, Fault> {
     let path = words.get_str("FILE").unwrap_or(STANDARD_INPUT);
     let stated = conditions_of(rt.alloc(), words)?;
+    let conditions = stated.conditions.as_slice();
+    let (kept, form) = kept_of(rt.alloc(), words, conditions)?;
     let asked = Asked {
         limit: words.get_one("limit").unwrap_or(1),
+        form,
         quiet: words.get_flag("quiet"),
-        conditions: stated.conditions.as_slice(),
+        kept: kept.as_ref(),
+        conditions,
     };
     match read_file(rt, path)? {
         Some(file) => list_file(
             rt,
             name_of(path),
             &asked,
-            words.get_flag("progress"),
+            words,
             stated.texts.as_slice(),
             file.as_slice(),
         ),
@@ -63,14 +99,21 @@ fn list_file(
     rt: &HostRuntime,
     name: &str,
     asked: &Asked<'_>,
-    progress: bool,
+    words: &ArgMatches<'_>,
     texts: &[&str],
     file: &[u8],
 ) -> Result<Status, Fault> {
-    let end = if progress {
-        list_by_stages(rt, asked, file)
+    let json = words.get_flag("json");
+    let search = Search {
+        name,
+        asked,
+        json,
+        file,
+    };
+    let end = if words.get_flag("progress") {
+        list_by_stages(rt, &search)
     } else {
-        list_within(rt, asked, file)
+        list_within(rt, &search, asked.limit)
     };
     match end {
         Ok(true) => Ok(Status::Done),
@@ -80,10 +123,19 @@ fn list_file(
         Err(OutcomesFault::Program(_)) => Err(Fault::Memory),
         Err(OutcomesFault::Condition(i)) => {
             let text = texts.get(i).copied().unwrap_or("");
+            let text = shown_name(rt.alloc(), text)?;
             let name = shown_name(rt.alloc(), name)?;
             let _ = eprintln!(rt;
-                "bendrika: `{text}` is no reply or row of memory that {name} can have"
+                "bendrika: `{text}` is no reply or bytes of memory that {name} can have"
             );
+            Ok(Status::WrongWords)
+        }
+        Err(OutcomesFault::Line(i)) => {
+            let places = words.get_str("show").or(words.get_str("lines"));
+            let place = places.unwrap_or("").split(',').nth(i).unwrap_or("");
+            let place = shown_name(rt.alloc(), place.trim())?;
+            let name = shown_name(rt.alloc(), name)?;
+            let _ = eprintln!(rt; "bendrika: {name} has no line `{place}`");
             Ok(Status::WrongWords)
         }
         Err(OutcomesFault::Limit) => {
@@ -93,10 +145,13 @@ fn list_file(
             } else {
                 ""
             };
+            if json {
+                printed(rt, json_limit(rt.alloc(), name, limit)?.as_str())?;
+            }
             let _ = eprintln!(rt;
                 "bendrika: more than {limit} states: {fewer}write fewer lines, or raise --limit"
             );
-            Ok(Status::Fault)
+            Ok(Status::Limit)
         }
     }
 }
@@ -121,30 +176,48 @@ fn has_attempts(alloc: Global, file: &[u8]) -> bool {
     false
 }
 
-/// Runs the engine on the bytes of a file.
-fn list_within(rt: &HostRuntime, asked: &Asked<'_>, file: &[u8]) -> Result<bool, OutcomesFault> {
-    let mut source = SliceSource::new(file, usize::MAX, usize::MAX);
-    let mut writer = Io::new(io::writer(rt));
-    outcomes_engine(rt.alloc(), asked, &mut source, &mut writer)
+/// Runs the engine on the bytes of a file. As JSON, it prints what the engine writes as objects.
+fn list_within(rt: &HostRuntime, search: &Search<'_>, limit: usize) -> Result<bool, OutcomesFault> {
+    let asked = search.asked.within(limit);
+    let mut source = SliceSource::new(search.file, usize::MAX, usize::MAX);
+    if !search.json {
+        let mut writer = Io::new(io::writer(rt));
+        return outcomes_engine(rt.alloc(), &asked, &mut source, &mut writer);
+    }
+    let mut gathered = Gathered::new(rt.alloc());
+    match outcomes_engine(rt.alloc(), &asked, &mut source, &mut gathered) {
+        Ok(holds) => match print_objects(rt, search.name, gathered.text()) {
+            Ok(()) => Ok(holds),
+            Err(Fault::Write) => Err(OutcomesFault::Program(ProgramFault::Write)),
+            Err(Fault::Memory) => Err(OutcomesFault::Program(ProgramFault::Memory)),
+        },
+        Err(OutcomesFault::Program(ProgramFault::Write)) => {
+            Err(OutcomesFault::Program(ProgramFault::Memory))
+        }
+        Err(fault) => Err(fault),
+    }
+}
+
+/// Prints the text of a list as objects.
+fn print_objects(rt: &HostRuntime, name: &str, text: &[u8]) -> Result<(), Fault> {
+    let text = std::str::from_utf8(text).unwrap_or("");
+    printed(rt, json_of(rt.alloc(), name, text)?.as_str())
 }
 
 /// Runs the engine with one limit after another, and reports on standard error which were passed. A
 /// search that passes its limit has written nothing, and the next one begins anew.
-fn list_by_stages(rt: &HostRuntime, asked: &Asked<'_>, file: &[u8]) -> Result<bool, OutcomesFault> {
+fn list_by_stages(rt: &HostRuntime, search: &Search<'_>) -> Result<bool, OutcomesFault> {
+    let limit = search.asked.limit;
     for stage in STAGES {
-        if asked.limit <= stage {
+        if limit <= stage {
             break;
         }
-        let within = Asked {
-            limit: stage,
-            ..*asked
-        };
-        match list_within(rt, &within, file) {
+        match list_within(rt, search, stage) {
             Err(OutcomesFault::Limit) => {
                 let _ = eprintln!(rt; "bendrika: {stage} states passed, searching on");
             }
             end => return end,
         }
     }
-    list_within(rt, asked, file)
+    list_within(rt, search, limit)
 }

@@ -11,6 +11,8 @@ pub(crate) enum Status {
     WrongWords,
     /// An input or a device failed, or an allocation.
     Fault,
+    /// There are more states than the limit.
+    Limit,
 }
 
 impl Status {
@@ -21,6 +23,7 @@ impl Status {
             Status::Errors => 1,
             Status::WrongWords => 2,
             Status::Fault => 3,
+            Status::Limit => 4,
         }
     }
 }

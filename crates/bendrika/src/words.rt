@@ -4,7 +4,7 @@ use clap::{Arg, ArgAction, Command, value_parser};
 use std::alloc::{AllocError, Global};
 
 /// The version that `--version` prints: that of the file VERSION.
-const VERSION: &str = "1.0.0";
+pub(crate) const VERSION: &str = "1.0.0";
 
 /// The greatest number of states that `--limit` of `outcomes` takes.
 const MOST_STATES: i64 = 100_000_000;
@@ -70,6 +70,17 @@ fn argument<'a>(alloc: Global, word: &Word) -> Result<Arg<'a>, AllocError> {
                 .value_name(word.value)
                 .action(ArgAction::Append),
         ),
+        Kind::Text => Ok(
+            named
+                .long(word.name)
+                .value_name(word.value)
+                .action(ArgAction::Set),
+        ),
+        Kind::ExclusiveText(other) => named
+            .long(word.name)
+            .value_name(word.value)
+            .action(ArgAction::Set)
+            .conflicts_with(other),
         Kind::Number(default) => Ok(
             named
                 .long(word.name)

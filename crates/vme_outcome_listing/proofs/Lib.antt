@@ -2,5 +2,7 @@ pub mod Texts
 pub mod Listings
 pub mod Outputs
 pub mod Written
+pub mod Places
+pub mod Claims
 pub mod Consequences
 mod Parts

@@ -92,13 +92,13 @@ replies_next slot script ended j number found =
     ]
 
 -- the replies of the script state at an index
-ended_at : (states : List BareScript) (i : ℕ) (c : BareScript) → slice_get states i ≡ Some c
-    → slice_get (map (λ (s : BareScript). s.ended) states) i ≡ Some c.ended
+pub ended_at : (states : List ScriptState) (i : ℕ) (c : ScriptState) → slice_get states i ≡ Some c
+    → slice_get (map (λ (s : ScriptState). s.ended) states) i ≡ Some c.ended
 ended_at states i c found =
     slice_get-map (λ (s : BareScript). s.ended) states i ∙ ap (option_map (λ (s : BareScript). s.ended)) found
 
 -- the bytes of the memory at an index
-bytes_at : (boards : List Board) (i : ℕ) (board : Board) → slice_get boards i ≡ Some board
+pub bytes_at : (boards : List Board) (i : ℕ) (board : Board) → slice_get boards i ≡ Some board
     → slice_get (map (λ (b : Board). b.bytes) boards) i ≡ Some board.bytes
 bytes_at boards i board found =
     slice_get-map (λ (b : Board). b.bytes) boards i ∙ ap (option_map (λ (b : Board). b.bytes)) found

@@ -1,6 +1,7 @@
 pub mod Texts
 pub mod ListedTexts
 pub mod Schedules
+pub mod Places
 pub mod Conditions
 pub mod Outputs
 pub mod EngineTexts

@@ -1,17 +1,12 @@
-//! Conditions on the outcomes.
-ghost use Rattle.std.specs.Prelude.{◌≡◌, ◌++◌, IfOk, OnOk, map, option_map};
-ghost use Rattle.std.specs.List.{list_any};
-ghost use Rattle.std.specs.Str.{bytes_eq, trim};
-ghost use Rattle.std.specs.Str.Lines.{lines};
-ghost use Rattle.vme_outcome_listing.specs.ListedTexts.{shown};
-ghost use Rattle.vme_outcome_listing.specs.Conditions.{has_lines, breaks, first_breaking, kind_text, wanted_text, verdict_text, parts_of};
+//! Conditions on the outcomes, as texts.
+ghost use Rattle.std.specs.Prelude.{◌≡◌, ◌<◌, ◌++◌, IfOk, OnOk, map, option_map};
+ghost use Rattle.vme_outcome_listing.specs.Conditions.{kind_text, wanted_text, verdict_text, trimmed_parts};
 ghost use Rattle.vme_grammar.specs.Texts.{output_line};
 
-use crate::paragraph::Paragraph;
 use crate::print::append_schedule;
 use std::alloc::{AllocError, Global};
 use std::marker::Model;
-use vme_lexer::Lines;
+use vme_states::ListedOutcome;
 
 /// What a condition wants of its lines.
 #[derive(Clone, Copy, Debug, PartialEq, Eq)]
@@ -23,6 +18,8 @@ pub enum Kind {
 }
 
 /// A condition on the outcomes: that none has these lines, or that each has them.
+///
+/// A line may be one of several, which stand between `|`.
 #[derive(Drop)]
 pub struct Condition<'a> {
     kind: Kind,
@@ -47,10 +44,17 @@ impl<'a> Condition<'a> {
     /// An allocation failed.
     pub fn new(alloc: Global, kind: Kind, text: &'a str) -> Result<Condition<'a>, AllocError>
         ensures kind { IfOk result (λ condition. condition.kind ≡ kind) }
-        ensures wanted { IfOk result (λ condition. condition.wanted ≡ map trim (parts_of text.now)) }
+        ensures wanted { IfOk result (λ condition. condition.wanted ≡ trimmed_parts 59 text.now) }
     {
-        let wanted = lines_wanted(alloc, text)?;
+        let wanted = trimmed_parts(alloc, text, ';')?;
         Ok(Condition { kind, wanted })
+    }
+
+    /// Returns what the condition wants of its lines.
+    pub(crate) fn kind(&self) -> Kind
+        ensures { result ≡ self.now.kind }
+    {
+        self.kind
     }
 
     /// Returns the lines.
@@ -60,39 +64,15 @@ impl<'a> Condition<'a> {
         self.wanted.as_slice()
     }
 
-    /// Returns the first paragraph that breaks the condition.
-    pub(crate) fn first_breaking<'b>(&self, paragraphs: &'b [Paragraph]) -> Option<&'b Paragraph>
-        ensures { option_map (λ p. shown p.now) result
-            ≡ first_breaking self.now (map shown paragraphs.now) }
-    {
-        for paragraph in paragraphs {
-            if self.is_broken_by(paragraph.text.as_slice()) {
-                return Some(paragraph);
-            }
-        }
-        None
-    }
-
-    /// Returns whether an outcome with this text breaks the condition.
-    fn is_broken_by(&self, text: &[u8]) -> bool
-        ensures { result ≡ breaks self.now text.now }
-    {
-        let has = has_lines(self.wanted(), text);
-        match self.kind {
-            Kind::Never => has,
-            Kind::Always => !has,
-        }
-    }
-
-    /// Appends the line of the condition, with the first paragraph that breaks it.
+    /// Appends the line of the condition, with the first outcome that breaks it.
     pub(crate) fn append(
         &self,
-        breaking: Option<&Paragraph>,
+        breaking: Option<&ListedOutcome>,
         text: &mut Vec<u8>,
     ) -> Result<(), AllocError>
         ensures { OnOk result (text.new.items ≡ text.old.items
             ++ output_line (kind_text self.now.kind ++ (wanted_text self.now.wanted
-            ++ verdict_text (option_map (λ p. shown p.now) breaking.entry)))) }
+            ++ verdict_text (option_map (λ o. o.now) breaking.entry)))) }
     {
         append_kind(self.kind, text)?;
         append_wanted(self.wanted(), text)?;
@@ -100,18 +80,19 @@ impl<'a> Condition<'a> {
     }
 }
 
-/// Returns the parts of a text that are separated by `;`, without the spaces around each.
-fn lines_wanted(alloc: Global, text: &str) -> Result<Vec<&str>, AllocError>
-    ensures { IfOk result (λ lines. map (λ line. line.now) lines.items ≡ map trim (parts_of text.now)) }
+/// Returns the parts of a text that end with a character, without the spaces around each.
+pub(crate) fn trimmed_parts(alloc: Global, text: &str, end: char) -> Result<Vec<&str>, AllocError>
+    requires { end < 128 }
+    ensures { IfOk result (λ parts. map (λ part. part.now) parts.items ≡ trimmed_parts end text.now) }
 {
-    let mut lines = Vec::new(alloc);
+    let mut parts = Vec::new(alloc);
     let mut rest = text;
-    while let Some((line, more)) = rest.split_once(';') {
-        lines.push(line.trim())?;
+    while let Some((part, more)) = rest.split_once(end) {
+        parts.push(part.trim())?;
         rest = more;
     }
-    lines.push(rest.trim())?;
-    Ok(lines)
+    parts.push(rest.trim())?;
+    Ok(parts)
 }
 
 /// Appends the word of a kind.
@@ -141,40 +122,16 @@ fn append_wanted(wanted: &[&str], text: &mut Vec<u8>) -> Result<(), AllocError>
 }
 
 /// Appends whether a condition holds, and the end of its line.
-fn append_verdict(breaking: Option<&Paragraph>, text: &mut Vec<u8>) -> Result<(), AllocError>
+fn append_verdict(breaking: Option<&ListedOutcome>, text: &mut Vec<u8>) -> Result<(), AllocError>
     ensures { OnOk result (text.new.items ≡ text.old.items
-        ++ output_line (verdict_text (option_map (λ p. shown p.now) breaking.entry))) }
+        ++ output_line (verdict_text (option_map (λ o. o.now) breaking.entry))) }
 {
     match breaking {
         None => text.extend_from_slice(b": holds\n"),
-        Some(paragraph) => {
+        Some(outcome) => {
             text.extend_from_slice(b": fails, ")?;
-            append_schedule(paragraph.schedule.as_slice(), text)?;
+            append_schedule(outcome.schedule(), text)?;
             text.extend_from_slice(b"\n")
         }
     }
-}
-
-/// Returns whether a text has each of these lines.
-fn has_lines(wanted: &[&str], text: &[u8]) -> bool
-    ensures { result ≡ has_lines (map (λ line. line.now) wanted.now) text.now }
-{
-    for line in wanted {
-        if !has_line(line.as_bytes(), text) {
-            return false;
-        }
-    }
-    true
-}
-
-/// Returns whether a text has a line.
-fn has_line(line: &[u8], text: &[u8]) -> bool
-    ensures { result ≡ list_any (bytes_eq line.now) (lines text.now) }
-{
-    for one in Lines::new(text) {
-        if line == one {
-            return true;
-        }
-    }
-    false
 }

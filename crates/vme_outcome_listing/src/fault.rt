@@ -21,6 +21,9 @@ pub enum OutcomesFault {
     /// A line of the condition with this index can be in no outcome of the file.
     #[error("condition {0}")]
     Condition(usize),
+    /// A script has no line at the place with this index of those that are kept.
+    #[error("line {0}")]
+    Line(usize),
     /// There are more states than the limit.
     #[error("limit")]
     Limit,

@@ -8,9 +8,10 @@ ghost use Rattle.vme_threads.specs.OneOrder.{IsReportOfOneOrder};
 ghost use Rattle.vme_threads.specs.ReportTexts.{texts_of_report};
 ghost use Rattle.vme_run.specs.RunTexts.{IsRunText};
 ghost use Rattle.vme_states.specs.Outcomes.{outcome_of_report};
-ghost use Rattle.vme_outcome_listing.specs.Texts.{outcome_text};
+ghost use Rattle.vme_outcome_listing.specs.Texts.{listed_text};
 ghost use Rattle.vme_outcome_listing.specs.ListedTexts.{texts_in};
-ghost use Rattle.vme_outcome_listing.specs.Conditions.{ConditionView, IsKept, IsBroken};
+ghost use Rattle.vme_outcome_listing.specs.Conditions.{ClaimView, IsKept, IsBroken};
+ghost use Rattle.vme_outcome_listing.specs.Outputs.{AskedView};
 ghost use Rattle.vme_outcome_listing.specs.EngineTexts.{IsOutcomesText};
 
 use vme_states::reports_have_a_listed_outcome;
@@ -18,25 +19,24 @@ use vme_states::reports_have_a_listed_outcome;
 /// If `outcomes_engine` returns that each condition holds, no outcome that some turns give breaks
 /// one; if it returns that one fails, some turns give an outcome that breaks it.
 pub fn conditions_hold_of_each_outcome()
-    ensures kept { (quiet : Bool) (conditions : List ConditionView) (input text : List ℕ) →
-        (outcomes : IsOutcomesText quiet conditions input text true) →
-        All (IsKept outcomes.config) conditions }
-    ensures broken { (quiet : Bool) (conditions : List ConditionView) (input text : List ℕ) →
-        (outcomes : IsOutcomesText quiet conditions input text false) →
-        (condition : ConditionView) × Contains conditions condition
-        × IsBroken outcomes.config condition }
+    ensures kept { (asked : AskedView) (input text : List ℕ) →
+        (outcomes : IsOutcomesText asked input text true) →
+        All (IsKept outcomes.config) outcomes.claims }
+    ensures broken { (asked : AskedView) (input text : List ℕ) →
+        (outcomes : IsOutcomesText asked input text false) →
+        (claim : ClaimView) × Contains outcomes.claims claim × IsBroken outcomes.config claim }
 {}
 
 /// Each text that `run_engine` may write for a file is that of some report of one order. The text
 /// of this report's outcome is in each list that `outcomes_engine` may write for the file.
 pub fn run_texts_have_a_listed_text()
-    ensures { (quiet holds : Bool) (conditions : List ConditionView) (input run text : List ℕ)
+    ensures { (asked : AskedView) (holds : Bool) (input run text : List ℕ)
         (status : Status) → IsRunText input run status →
-        (outcomes : IsOutcomesText quiet conditions input text holds) →
+        (outcomes : IsOutcomesText asked input text holds) →
         (report : Report) × (run ≡ report_text (texts_of_report report))
         × IsReportOfOneOrder outcomes.config report
         × Contains (texts_in outcomes.listed)
-        (outcome_text outcomes.config (outcome_of_report report)) }
+        (listed_text outcomes.config asked.kept (outcome_of_report report)) }
 {
     reports_have_a_listed_outcome();
 }

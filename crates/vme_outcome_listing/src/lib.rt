@@ -5,20 +5,24 @@
 #![tactic(auto)]
 
 mod asked;
+mod claim;
 mod condition;
 mod engine;
 mod fault;
+mod kept;
 mod laws;
 mod listing;
 mod names;
 mod paragraph;
+mod place;
 mod print;
 mod replies;
 mod text;
 mod write;
 
-pub use asked::Asked;
+pub use asked::{Asked, Form};
 pub use condition::{Condition, Kind};
 pub use engine::outcomes_engine;
 pub use fault::OutcomesFault;
+pub use kept::Kept;
 pub use laws::{conditions_hold_of_each_outcome, run_texts_have_a_listed_text};

@@ -63,7 +63,7 @@ fn append_script(
 }
 
 /// Appends the line for the reply to a line of a script.
-fn append_reply(
+pub(crate) fn append_reply(
     slot: u16,
     number: u16,
     reply: Option<&LineReply>,

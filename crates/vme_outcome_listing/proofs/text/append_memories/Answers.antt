@@ -1,4 +1,4 @@
-use Rattle.std.proofs.Common.{◌≤◌, length, map, arith, inl, inr}
+use Rattle.std.proofs.Common.{◌≤◌, length, arith, inl, inr}
 use Rattle.std.proofs.lemmas.List.{length-map}
 use Rattle.vme_script.specs.declared.board.BoardConfig.{BoardConfig}
 use Rattle.vme_outcome_listing.specs.Texts.{slots_of}

@@ -11,7 +11,7 @@ use Rattle.vme_outcome_listing.proofs.write.gather_paragraphs.Goals as goal
 
 pub returns-in_err-gather_paragraph-clause-gathers : goal.returns-in_err-gather_paragraph-clause-gathers
 returns-in_err-gather_paragraph-clause-gathers g c =
-    let text = λ (p : Paragraph). paragraph_text (shown p) in
+    let text = λ (p : Paragraph). paragraph_text c.args.form (shown p) in
     let within : c.loop-paragraph.paragraph-index < length c.args.paragraphs.now = omega (arith, c.loop-paragraph-test.true) in
     let first = item_first text c.args.paragraphs.now c.loop-paragraph.paragraph-index c.paragraph-item.result within c.paragraph-item.is in
     let prefix : AppendsPrefix (g.W.Sink.contents c.args.writer.now) (g.W.Sink.contents c.gather_paragraph.new.writer)
@@ -23,7 +23,7 @@ returns-in_err-gather_paragraph-clause-gathers g c =
 
 pub loop-paragraph-preserved : goal.loop-paragraph-preserved
 loop-paragraph-preserved g c =
-    let text = λ (p : Paragraph). paragraph_text (shown p) in
+    let text = λ (p : Paragraph). paragraph_text c.args.form (shown p) in
     let within : c.loop-paragraph.paragraph-index < length c.args.paragraphs.now = omega (arith, c.loop-paragraph-test.true) in
     let first = item_first text c.args.paragraphs.now c.loop-paragraph.paragraph-index c.paragraph-item.result within c.paragraph-item.is in
     record {

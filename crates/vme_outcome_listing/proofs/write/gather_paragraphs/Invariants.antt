@@ -9,7 +9,7 @@ use Rattle.vme_outcome_listing.proofs.write.gather_paragraphs.Given as goal
 abbrev pub invariant-loop-paragraph : goal.invariant-loop-paragraph
 invariant-loop-paragraph g l = record {
   gathered : SoFar (g.W.Sink.contents l.fn.writer) (g.W.Sink.contents l.writer) l.text.items
-      (flat_map (λ p. paragraph_text (shown p)) (drop l.paragraph-index l.paragraphs))
-      (l.fn.text.items ++ flat_map (λ p. paragraph_text (shown p)) l.fn.paragraphs);
+      (flat_map (λ p. paragraph_text l.form (shown p)) (drop l.paragraph-index l.paragraphs))
+      (l.fn.text.items ++ flat_map (λ p. paragraph_text l.form (shown p)) l.fn.paragraphs);
   mark : g.W.Sink.is_marked l.writer ≡ false;
 }

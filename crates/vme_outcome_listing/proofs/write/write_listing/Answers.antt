@@ -10,19 +10,19 @@ pub returns-in_err-gather_paragraphs-clause-prefix : goal.returns-in_err-gather_
 returns-in_err-gather_paragraphs-clause-prefix g c =
     let none : c.in_ok-text.text.items ≡ [] = search rules in
     let prefix : AppendsPrefix (g.W.Sink.contents c.args.writer.now) (g.W.Sink.contents c.gather_paragraphs.new.writer)
-    (listing_text c.args.asked.now.quiet c.args.asked.now.conditions.now (map shown c.args.listing.now.paragraphs.items) c.args.listing.now.states) =
-    whole_prefix _ _ c.args.asked.now.quiet c.args.asked.now.conditions.now c.args.listing.now.paragraphs.items c.as_slice-paragraphs.result.now
-    c.unless_quiet.result.now c.args.listing.now.states c.as_slice-paragraphs.ensures.value c.unless_quiet.ensures
+    (listing_text c.args.output c.args.listing.now.answers.items (map shown c.args.listing.now.paragraphs.items) c.args.states) =
+    whole_prefix _ _ c.args.output c.args.listing.now.answers.items c.args.listing.now.paragraphs.items c.as_slice-paragraphs.result.now
+    c.unless_quiet.result.now c.args.states c.as_slice-paragraphs.ensures.value c.unless_quiet.ensures
     (first_cut _ _ c.in_ok-text.text.items _ _ none c.in_err-gather_paragraphs.ensures.gathers) in
     search rules
 
-pub returns-in_err-holds-clause-prefix : goal.returns-in_err-holds-clause-prefix
-returns-in_err-holds-clause-prefix g c =
+pub returns-in_err-append_ending-clause-prefix : goal.returns-in_err-append_ending-clause-prefix
+returns-in_err-append_ending-clause-prefix g c =
     let none : c.in_ok-text.text.items ≡ [] = search rules in
     let prefix : AppendsPrefix (g.W.Sink.contents c.args.writer.now) (g.W.Sink.contents c.gather_paragraphs.new.writer)
-    (listing_text c.args.asked.now.quiet c.args.asked.now.conditions.now (map shown c.args.listing.now.paragraphs.items) c.args.listing.now.states) =
-    whole_prefix _ _ c.args.asked.now.quiet c.args.asked.now.conditions.now c.args.listing.now.paragraphs.items c.as_slice-paragraphs.result.now
-    c.unless_quiet.result.now c.args.listing.now.states c.as_slice-paragraphs.ensures.value c.unless_quiet.ensures
+    (listing_text c.args.output c.args.listing.now.answers.items (map shown c.args.listing.now.paragraphs.items) c.args.states) =
+    whole_prefix _ _ c.args.output c.args.listing.now.answers.items c.args.listing.now.paragraphs.items c.as_slice-paragraphs.result.now
+    c.unless_quiet.result.now c.args.states c.as_slice-paragraphs.ensures.value c.unless_quiet.ensures
     (last_missing _ _ c.in_ok-text.text.items _ _ _ none c.in_ok-gather_paragraphs.ensures.gathers) in
     search rules
 
@@ -30,17 +30,17 @@ pub returns-in_err-write_all-clause-prefix : goal.returns-in_err-write_all-claus
 returns-in_err-write_all-clause-prefix g c =
     let none : c.in_ok-text.text.items ≡ [] = search rules in
     let prefix : AppendsPrefix (g.W.Sink.contents c.args.writer.now) (g.W.Sink.contents c.write_all.new.writer)
-    (listing_text c.args.asked.now.quiet c.args.asked.now.conditions.now (map shown c.args.listing.now.paragraphs.items) c.args.listing.now.states) =
-    whole_prefix _ _ c.args.asked.now.quiet c.args.asked.now.conditions.now c.args.listing.now.paragraphs.items c.as_slice-paragraphs.result.now
-    c.unless_quiet.result.now c.args.listing.now.states c.as_slice-paragraphs.ensures.value c.unless_quiet.ensures
-    (last_cut _ _ _ c.in_ok-text.text.items _ _ _ _ none c.in_ok-gather_paragraphs.ensures.gathers c.in_ok-holds.ensures.text
+    (listing_text c.args.output c.args.listing.now.answers.items (map shown c.args.listing.now.paragraphs.items) c.args.states) =
+    whole_prefix _ _ c.args.output c.args.listing.now.answers.items c.args.listing.now.paragraphs.items c.as_slice-paragraphs.result.now
+    c.unless_quiet.result.now c.args.states c.as_slice-paragraphs.ensures.value c.unless_quiet.ensures
+    (last_cut _ _ _ c.in_ok-text.text.items _ _ _ _ none c.in_ok-gather_paragraphs.ensures.gathers c.in_ok-append_ending.ensures
     (rw c.as_slice.ensures.value at c.in_err-write_all.ensures.prefix)) in
     search rules
 
 pub returns-clause-text : goal.returns-clause-text
 returns-clause-text g c =
     let none : c.in_ok-text.text.items ≡ [] = search rules in
-    whole_written _ _ c.args.asked.now.quiet c.args.asked.now.conditions.now c.args.listing.now.paragraphs.items c.as_slice-paragraphs.result.now
-    c.unless_quiet.result.now c.args.listing.now.states c.as_slice-paragraphs.ensures.value c.unless_quiet.ensures
-    (both_written _ _ _ c.in_ok-text.text.items _ _ _ _ none c.in_ok-gather_paragraphs.ensures.gathers c.in_ok-holds.ensures.text
+    whole_written _ _ c.args.output c.args.listing.now.answers.items c.args.listing.now.paragraphs.items c.as_slice-paragraphs.result.now
+    c.unless_quiet.result.now c.args.states c.as_slice-paragraphs.ensures.value c.unless_quiet.ensures
+    (both_written _ _ _ c.in_ok-text.text.items _ _ _ _ none c.in_ok-gather_paragraphs.ensures.gathers c.in_ok-append_ending.ensures
     (rw c.as_slice.ensures.value at c.in_ok-write_all.ensures.bytes))
