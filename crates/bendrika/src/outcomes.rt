@@ -24,6 +24,7 @@ struct Stated<'a> {
 }
 
 /// What is searched, and how the outcomes are printed.
+#[derive(Drop)]
 struct Search<'a> {
     name: &'a str,
     asked: &'a Asked<'a>,
