@@ -121,7 +121,27 @@ static CYCLES: [Word; 5] = [
 ];
 
 /// The words of `bendrika trace`.
-static TRACE: [Word; 1] = [FILE];
+static TRACE: [Word; 4] = [
+    FILE,
+    Word {
+        name: "EVENTS",
+        value: "A-B",
+        kind: Kind::Optional,
+        help: "Show events A to B, numbered from 1; all events if not given",
+    },
+    Word {
+        name: "polls",
+        value: "",
+        kind: Kind::Flag,
+        help: "Show the polls of slots that wait for the bus too",
+    },
+    Word {
+        name: "gtkw",
+        value: "",
+        kind: Kind::Flag,
+        help: "Print a save file of GTKWave, which groups the signals, instead of the waveforms",
+    },
+];
 
 /// The words of `bendrika page`.
 static PAGE: [Word; 2] = [

@@ -6,7 +6,14 @@ use clap::ArgMatches;
 use std::io;
 use vme_engines::ProgramFault;
 use vme_io::{Io, SliceSource};
-use vme_page::{EventRange, page_engine};
+use vme_page::page_engine;
+use vme_trace::EventRange;
+
+/// The events that a page shows if nothing else is said.
+const SHOWN: EventRange = EventRange {
+    first: 1,
+    last: 1000,
+};
 
 /// Writes the page of the run of the file that the words name.
 pub(crate) fn paged(rt: &HostRuntime, words: &ArgMatches<'_>) -> Result<Status, Fault> {
@@ -15,7 +22,7 @@ pub(crate) fn paged(rt: &HostRuntime, words: &ArgMatches<'_>) -> Result<Status, 
             Some(range) => range,
             None => return Ok(wrong_range(rt)),
         },
-        None => EventRange::DEFAULT,
+        None => SHOWN,
     };
     let path = words.get_str("FILE").unwrap_or(STANDARD_INPUT);
     match read_file(rt, path)? {
@@ -34,7 +41,7 @@ fn page_file(
 ) -> Result<Status, Fault> {
     let mut source = SliceSource::new(file, usize::MAX, usize::MAX);
     let mut writer = Io::new(io::writer(rt));
-    match page_engine(rt.alloc(), range, &mut source, &mut writer) {
+    match page_engine(rt.alloc(), name, range, &mut source, &mut writer) {
         Ok(()) => Ok(Status::Done),
         Err(ProgramFault::Config(_)) => refuse(rt, name, file),
         Err(ProgramFault::Write) => Err(Fault::Write),
@@ -43,7 +50,7 @@ fn page_file(
 }
 
 /// Reports a word that is no range of events. A failure of that write is ignored.
-fn wrong_range(rt: &HostRuntime) -> Status {
+pub(crate) fn wrong_range(rt: &HostRuntime) -> Status {
     let _ = eprintln!(rt; "bendrika: A-B is two decimal numbers, 1 <= A <= B <= 4294967295");
     Status::WrongWords
 }

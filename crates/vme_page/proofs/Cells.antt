@@ -88,3 +88,11 @@ two_whole changes w v old begun mid new two levels layout mid_levels mid_layout 
       (two_parts (λ (edge count : ℕ) (bars : List Bar). map (bar_over changes edge count) bars) (bars_more changes) w v two begun.layout.bars)
       ∙ ap (layout_past Whole changes) layout;
 }
+
+-- what is done before an event that leaves values and layout
+pub after_kept : (changes : List Change) (old mid new : DiagramView) → mid.levels ≡ old.levels → mid.layout ≡ old.layout
+    → IsWholeEvent changes mid new → IsWholeEvent changes old new
+after_kept changes old mid new levels layout whole = record {
+  levels = whole.levels ∙ ap (levels_past Whole changes) levels;
+  layout = whole.layout ∙ ap (layout_past Whole changes) layout;
+}

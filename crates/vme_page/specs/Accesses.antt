@@ -1,7 +1,7 @@
 -- The accesses of the local ports.
 use Rattle.std.specs.Prelude.{ℕ, Bool, true, false, List, Option, Some, None}
 use Rattle.vme_trace.specs.declared.dump.change.Value.{Value}
-use Rattle.vme_trace.specs.declared.dump.change.Value.TheVariants.{Low, High, Free, Released, Number, Lanes}
+use Rattle.vme_trace.specs.declared.dump.change.Value.TheVariants.{Low, High, Free, Released, Number, Lanes, Grants}
 use Rattle.vme_trace.specs.declared.dump.change.Change.{Change}
 use Rattle.vme_page.specs.declared.diagram.access.Access.{Access}
 use Rattle.vme_page.specs.declared.diagram.layout.LocalPort.{LocalPort}
@@ -17,6 +17,7 @@ is_high Free = false
 is_high Released = false
 is_high (Number width number) = false
 is_high (Lanes lanes) = false
+is_high (Grants bits) = false
 
 -- whether a line becomes high
 abbrev pub is_raised : Option Value → Bool

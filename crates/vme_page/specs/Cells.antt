@@ -1,10 +1,10 @@
 -- The lines of a cell: their variables, their values before it, and how they are drawn.
 use Rattle.std.specs.Prelude.{ℕ, ◌+◌, ◌%◌, Bool, List, [], ◌∷◌, Option, Some, None}
 use Rattle.vme_trace.specs.declared.dump.change.Value.{Value}
-use Rattle.vme_trace.specs.declared.dump.change.Value.TheVariants.{Low, High, Free, Released, Number, Lanes}
+use Rattle.vme_trace.specs.declared.dump.change.Value.TheVariants.{Low, High, Free, Released, Number, Lanes, Grants}
 use Rattle.vme_trace.specs.declared.dump.change.Change.{Change}
 use Rattle.vme_trace.specs.declared.dump.variable.Variable.{Variable}
-use Rattle.vme_trace.specs.declared.dump.variable.Variable.TheVariants.{AddressStrobe, AddressModifier, AddressLines, FirstAddressLine, LongWord, WriteLine, FirstStrobe, SecondStrobe, DataLines, UpperDataLines, Acknowledge, BusError}
+use Rattle.vme_trace.specs.declared.dump.variable.Variable.TheVariants.{AddressStrobe, AddressModifier, AddressLines, LongWord, WriteLine, FirstStrobe, SecondStrobe, DataLines, UpperDataLines, Acknowledge, BusError}
 use Rattle.vme_trace.specs.Variables.{code_of}
 use Rattle.vme_page.specs.declared.diagram.cell.Cell.{Cell}
 use Rattle.vme_page.specs.declared.diagram.layout.Bar.{Bar}
@@ -23,6 +23,7 @@ number_or before (Some Free) = number_of before
 number_or before (Some Released) = number_of before
 number_or before (Some (Number width number)) = number
 number_or before (Some (Lanes lanes)) = number_of before
+number_or before (Some (Grants bits)) = number_of before
 
 -- the address modifier that a cell names: that of the transfer that begins in it, or else the one before
 abbrev pub modifier_of : Cell → List Change → ℕ
@@ -32,21 +33,20 @@ modifier_of cell changes = number_or cell.levels.address_modifier (first_value c
 abbrev pub bus_row : Variable → Value → Style → ℕ → Row
 bus_row variable value style y = record { code = code_of variable; value = value; style = style; y = y }
 
--- the lines of the bus: the address with its modifier, and over it the upper half of eight-byte data; WRITE*, LWORD*, A01, AS*,
--- DS1*, DS0*, D31 to D00, DTACK* and BERR*
+-- the lines of the bus: the address with its modifier, and over it the upper half of eight-byte data; WRITE*, LWORD*, AS*, DS1*,
+-- DS0*, D31 to D00, DTACK* and BERR*
 unfoldable pub bus_rows : Bool → Levels → ℕ → ℕ → List Row
 bus_rows leads l modifier y =
     bus_row AddressLines l.address_lines (Address leads modifier) y
     ∷ bus_row UpperDataLines l.upper_data_lines UpperData y
     ∷ bus_row WriteLine l.write_line Level (y + 24)
     ∷ bus_row LongWord l.long_word Level (y + 48)
-    ∷ bus_row FirstAddressLine l.first_address_line Level (y + 72)
-    ∷ bus_row AddressStrobe l.address_strobe Level (y + 96)
-    ∷ bus_row FirstStrobe l.first_strobe Level (y + 120)
-    ∷ bus_row SecondStrobe l.second_strobe Level (y + 144)
-    ∷ bus_row DataLines l.data_lines Data (y + 168)
-    ∷ bus_row Acknowledge l.acknowledge Level (y + 192)
-    ∷ bus_row BusError l.bus_error Error (y + 216) ∷ []
+    ∷ bus_row AddressStrobe l.address_strobe Level (y + 72)
+    ∷ bus_row FirstStrobe l.first_strobe Level (y + 96)
+    ∷ bus_row SecondStrobe l.second_strobe Level (y + 120)
+    ∷ bus_row DataLines l.data_lines Data (y + 144)
+    ∷ bus_row Acknowledge l.acknowledge Level (y + 168)
+    ∷ bus_row BusError l.bus_error Error (y + 192) ∷ []
 
 -- the rows of a bar: a frame while the slot requests the bus, and over it a solid bar while it holds the bus
 unfoldable pub bar_rows : Bar → ℕ → List Row

@@ -4,7 +4,7 @@ use Rattle.vme_script.specs.Configurations.{Configuration}
 use Rattle.vme_stepper.specs.Schedules.{file_turns}
 use Rattle.vme_trace.specs.declared.observation.Observation.{Observation}
 use Rattle.vme_trace.specs.Observations.{observations}
-use Rattle.vme_page.specs.declared.range.EventRange.{EventRange}
+use Rattle.vme_trace.specs.declared.range.EventRange.{EventRange}
 use Rattle.vme_page.specs.Levels.{levels_after_run}
 use Rattle.vme_page.specs.Layouts.{bars_after_run}
 use Rattle.vme_page.specs.Diagrams.{DiagramView}

@@ -1,5 +1,5 @@
 -- The slots that a strip shows: their bars and their local ports.
-use Rattle.std.specs.Prelude.{ℕ, Bool, true, false, not, if◌then◌else◌, List, [], ◌∷◌, flat_map, length, map, slice_index_or, None}
+use Rattle.std.specs.Prelude.{ℕ, Bool, true, false, not, if◌then◌else◌, List, [], ◌∷◌, flat_map, length, map}
 use Rattle.std.specs.List.{list_any, range_with_len}
 use Rattle.vme_grammar.specs.declared.line.Line.{Line}
 use Rattle.vme_grammar.specs.declared.line.Line.TheVariants as lines
@@ -21,18 +21,6 @@ use Rattle.vme_page.specs.Points.{value_past}
 pub record LayoutView : Type 0 where
   pub bars : List Bar
   pub ports : List LocalPort
-
--- a code that no variable has
-abbrev pub no_code : Code
-no_code = record { first = 0; second = None }
-
--- a bar at an index
-abbrev pub bar_or : List Bar → ℕ → Bar
-bar_or bars i = slice_index_or bars i (record { slot = 0; level = 0; request_code = no_code; request = High; busy_code = no_code; busy = High })
-
--- a local port at an index
-abbrev pub port_or : List LocalPort → ℕ → LocalPort
-port_or ports i = slice_index_or ports i (record { slot = 0; write = no_code; offset = no_code; bytes = no_code; error = no_code })
 
 -- whether a line is one of the local port
 abbrev pub is_local : Line → Bool

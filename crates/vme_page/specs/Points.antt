@@ -1,9 +1,9 @@
 -- The values of a variable in a cell.
-use Rattle.std.specs.Prelude.{ℕ, ◌-◌, nat_le, nat_lt, Bool, ◌&&◌, if◌then◌else◌, List, [], ◌∷◌, flat_map, Option, slice_get}
+use Rattle.std.specs.Prelude.{ℕ, ◌-◌, Bool, ◌&&◌, if◌then◌else◌, List, [], ◌∷◌, flat_map, Option, slice_get}
 use Rattle.std.specs.Option.{option_map}
 use Rattle.vme_trace.specs.declared.dump.change.Code.{Code}
 use Rattle.vme_trace.specs.declared.dump.change.Value.{Value}
-use Rattle.vme_trace.specs.declared.dump.change.Value.TheVariants.{Low, High, Free, Released, Number, Lanes}
+use Rattle.vme_trace.specs.declared.dump.change.Value.TheVariants.{Low, High, Free, Released, Number, Lanes, Grants}
 use Rattle.vme_trace.specs.declared.dump.change.Change.{Change}
 use Rattle.vme_trace.specs.Shown.{is_code, value_over}
 use Rattle.vme_page.specs.declared.diagram.point.Point.{Point}
@@ -13,10 +13,6 @@ use Rattle.vme_page.specs.Windows.{first_edge, end_edge, shows, place}
 -- whether a change is one of a variable in a cell
 abbrev pub is_in : Window → Code → Change → Bool
 is_in window code c = is_code code c.code && shows window c.edge
-
--- whether a change is one of a variable from an edge on, and before an end
-abbrev pub is_due : Code → ℕ → ℕ → Change → Bool
-is_due code edge end c = is_code code c.code && nat_le edge c.edge && nat_lt c.edge end
 
 -- the point of a change, if it is one of a variable in a cell
 abbrev pub point_in : Window → Code → Change → List Point
@@ -42,3 +38,4 @@ number_of Free = 0
 number_of Released = 0
 number_of (Number width number) = number
 number_of (Lanes lanes) = 0
+number_of (Grants bits) = 0

@@ -33,7 +33,7 @@ place_or last (Some place) = place
 
 -- the place of an edge of a handshake
 abbrev pub handshake_place : ℕ → ℕ
-handshake_place edge = place_or 100 (slice_get (4 ∷ 10 ∷ 20 ∷ 30 ∷ 40 ∷ 60 ∷ 72 ∷ 84 ∷ 90 ∷ 96 ∷ []) edge)
+handshake_place edge = place_or 100 (slice_get (4 ∷ 10 ∷ 18 ∷ 24 ∷ 34 ∷ 60 ∷ 72 ∷ 84 ∷ 92 ∷ 97 ∷ []) edge)
 
 -- the place of an edge of arbitration: BRn* rises where BBSY* falls
 abbrev pub arbitration_place : ℕ → ℕ

@@ -6,11 +6,13 @@ ghost use Rattle.vme_page.specs.Layouts.{bars_after_run, layout_past};
 ghost use Rattle.vme_page.specs.Diagrams.{IsOneCell, AreTwoCells, IsWholeEvent};
 
 mod access;
+mod acting;
 mod bars;
 mod cell;
 mod heading;
 mod layout;
 mod levels;
+mod places;
 mod point;
 mod row;
 mod shape;
@@ -18,12 +20,11 @@ mod strip;
 mod window;
 
 use crate::diagram::bars::slot_of;
-use crate::diagram::cell::{Cell, print_cell};
-use crate::diagram::heading::Heading;
+use crate::diagram::heading::{Heading, print_folded, print_heading};
 use crate::diagram::layout::Layout;
 use crate::diagram::levels::Levels;
 use crate::diagram::point::Point;
-use crate::diagram::strip::print_strip;
+use crate::diagram::strip::Strip;
 use crate::diagram::window::Window;
 use std::alloc::{AllocError, Global};
 use std::marker::Model;
@@ -42,6 +43,14 @@ pub struct Diagram {
     column: u8,
     datum: u32,
     points: Vec<Point>,
+    /// The cells of the open strip.
+    strip: Strip,
+    /// The heading of the next cell.
+    text: Vec<u8>,
+    /// The number of the last event.
+    number: u32,
+    /// How many polls that wait are the last events.
+    polls: u32,
     ghost column_fits: { column ≤ 10 },
 }
 
@@ -73,14 +82,20 @@ impl Diagram {
             column: 0,
             datum: 0,
             points: Vec::new(alloc),
+            strip: Strip::new(alloc),
+            text: Vec::new(alloc),
+            number: 0,
+            polls: 0,
         })
     }
 
-    /// Appends the cells of event `number`, whose changes these are.
+    /// Draws event `number`, whose changes these are. Polls that wait are one cell, which the next other
+    /// event draws.
     ///
     /// # Errors
     ///
     /// An allocation failed.
+    #[tactic(auto, using(crate::proofs::Cells::after_kept))]
     pub fn print_event(
         &mut self,
         text: &mut Vec<u8>,
@@ -91,13 +106,46 @@ impl Diagram {
     ) -> Result<(), AllocError>
         ensures { OnOk result (IsWholeEvent changes.now self.old self.new) }
     {
+        if event.waits() {
+            self.fold(number);
+            self.pass_event(event, changes);
+            return Ok(());
+        }
+        self.print_polls(text)?;
         let heading = Heading {
             number,
             slot: replying_slot(config, event.slot, &event.activity),
             datum: datum_after(&event.activity, self.datum),
         };
-        self.print_cells(text, heading, event, changes)?;
+        self.print_cells(text, config, heading, event, changes)?;
         self.datum = heading.datum;
+        Ok(())
+    }
+
+    /// Counts a poll that waits.
+    fn fold(&mut self, number: u32)
+        ensures { self.new ≡ self.old }
+    {
+        self.number = number;
+        self.polls = self.polls.saturating_add(1);
+    }
+
+    /// Draws the polls that wait since the last other event, if there are some.
+    fn print_polls(&mut self, text: &mut Vec<u8>) -> Result<(), AllocError>
+        ensures levels { self.new.levels ≡ self.old.levels }
+        ensures layout { self.new.layout ≡ self.old.layout }
+    {
+        if self.polls == 0 {
+            return Ok(());
+        }
+        let first = self.number.saturating_sub(self.polls - 1);
+        self.open_strip(text, first, 1)?;
+        self.text.clear();
+        print_folded(&mut self.text, first, self.number, self.polls)?;
+        self.strip
+            .push(Window::Whole, self.levels, self.text.as_slice(), &[])?;
+        self.polls = 0;
+        self.column += 1;
         Ok(())
     }
 
@@ -110,7 +158,8 @@ impl Diagram {
         self.layout.pass(Window::Whole, changes);
     }
 
-    /// Appends the end of the open strip, if one is open. The next cell begins another.
+    /// Appends what is not yet printed: the polls at the end, and the open strip. The next cell begins
+    /// another strip.
     ///
     /// # Errors
     ///
@@ -118,15 +167,26 @@ impl Diagram {
     pub fn print_end(&mut self, text: &mut Vec<u8>) -> Result<(), AllocError>
         ensures { self.new ≡ record self.old { column = 0 } }
     {
-        let column = self.column;
+        let printed = self.print_rest(text);
         self.column = 0;
-        print_closing(text, column)
+        printed
+    }
+
+    /// Appends what is not yet printed.
+    fn print_rest(&mut self, text: &mut Vec<u8>) -> Result<(), AllocError>
+        ensures levels { self.new.levels ≡ self.old.levels }
+        ensures layout { self.new.layout ≡ self.old.layout }
+    {
+        self.print_polls(text)?;
+        self.strip
+            .print(text, &mut self.points, self.layout.ports())
     }
 
     /// Appends the cells of an event.
     fn print_cells(
         &mut self,
         text: &mut Vec<u8>,
+        config: &Config,
         heading: Heading,
         event: &Observation,
         changes: &[Change],
@@ -134,9 +194,9 @@ impl Diagram {
         ensures { OnOk result (IsWholeEvent changes.now self.old self.new) }
     {
         if is_long(changes) {
-            self.print_two(text, heading, event, changes)
+            self.print_two(text, config, heading, event, changes)
         } else {
-            self.print_one(text, heading, event, changes)
+            self.print_one(text, config, heading, event, changes)
         }
     }
 
@@ -144,6 +204,7 @@ impl Diagram {
     fn print_one(
         &mut self,
         text: &mut Vec<u8>,
+        config: &Config,
         heading: Heading,
         event: &Observation,
         changes: &[Change],
@@ -152,7 +213,7 @@ impl Diagram {
     {
         let window = one_window(&event.activity);
         self.open_strip(text, heading.number, 1)?;
-        self.print_cell(text, window, heading, event, changes)?;
+        self.print_cell(config, window, heading, event, changes)?;
         Ok(())
     }
 
@@ -160,6 +221,7 @@ impl Diagram {
     fn print_two(
         &mut self,
         text: &mut Vec<u8>,
+        config: &Config,
         heading: Heading,
         event: &Observation,
         changes: &[Change],
@@ -168,8 +230,8 @@ impl Diagram {
     {
         let (first, second) = two_windows(&event.activity);
         self.open_strip(text, heading.number, 2)?;
-        self.print_cell(text, first, heading, event, changes)?;
-        self.print_cell(text, second, heading, event, changes)?;
+        self.print_cell(config, first, heading, event, changes)?;
+        self.print_cell(config, second, heading, event, changes)?;
         Ok(())
     }
 
@@ -180,11 +242,11 @@ impl Diagram {
         ensures layout { self.new.layout ≡ self.old.layout }
         ensures fits { self.new.column + count ≤ 10 }
     {
-        let column = self.column;
-        self.column = start_of(column, count);
+        self.column = start_of(self.column, count);
         if self.column == 0 {
-            print_closing(text, column)?;
-            return print_strip(text, &self.layout, number);
+            self.strip
+                .print(text, &mut self.points, self.layout.ports())?;
+            return self.strip.begin(number, self.layout.bars());
         }
         Ok(())
     }
@@ -192,7 +254,7 @@ impl Diagram {
     /// Appends a cell of an event in the next column.
     fn print_cell(
         &mut self,
-        text: &mut Vec<u8>,
+        config: &Config,
         window: Window,
         heading: Heading,
         event: &Observation,
@@ -205,20 +267,10 @@ impl Diagram {
             (self.new.layout ≡ layout_past window changes.now self.old.layout) }
         ensures column { OnOk result (self.new.column ≡ self.old.column + 1) }
     {
-        let cell = Cell {
-            window,
-            column: self.column,
-            levels: self.levels,
-        };
-        print_cell(
-            text,
-            &mut self.points,
-            &self.layout,
-            cell,
-            heading,
-            event,
-            changes,
-        )?;
+        self.text.clear();
+        print_heading(&mut self.text, config, heading, window, event)?;
+        self.strip
+            .push(window, self.levels, self.text.as_slice(), changes)?;
         self.column += 1;
         self.levels = self.levels.past(window, changes);
         self.layout.pass(window, changes);
@@ -277,12 +329,4 @@ fn start_of(column: u8, count: u8) -> u8
     ensures { result + count ≤ 10 }
 {
     if CELLS < column + count { 0 } else { column }
-}
-
-/// Appends the end of the open strip, if one is open.
-fn print_closing(text: &mut Vec<u8>, column: u8) -> Result<(), AllocError> {
-    if column == 0 {
-        return Ok(());
-    }
-    text.extend_from_slice(b"</svg>\n")
 }

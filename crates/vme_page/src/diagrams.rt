@@ -12,13 +12,12 @@ ghost use Rattle.vme_page.specs.Drawings.{ShowsRun, ShowsFirst};
 ghost use Rattle.vme_page.specs.Pages.{Grows};
 
 use crate::drawing::Drawing;
-use crate::range::EventRange;
 use std::alloc::Global;
 use vme_io::{Sink, WRITE_SIZE, flush_if_full, write_all};
 use vme_report::RunFault;
 use vme_script::Config;
 use vme_stepper::{Stepper, board_in_slot};
-use vme_trace::{FileTurns, Observation, observe_turn};
+use vme_trace::{EventRange, FileTurns, Observation, observe_turn};
 
 /// Writes the diagrams of some events, a note if others are not shown, and the begin of the report.
 pub(crate) fn write_diagrams<W: Sink>(
@@ -66,7 +65,7 @@ fn draw_turns<'a, W: Sink>(
     while let Some(slot) = next_turn(&mut turns, config, range, drawing.count()) {
         draw_turn(config, slot, range, drawing, stepper, text, writer)?;
     }
-    drawing.print_ending(text, range)?;
+    drawing.print_ending(text, config, range)?;
     Ok(())
 }
 

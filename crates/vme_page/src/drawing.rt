@@ -4,12 +4,12 @@ ghost use Rattle.vme_trace.specs.declared.observation.Observation.{Observation};
 ghost use Rattle.vme_page.specs.Drawings.{ShowsRun, is_left_out};
 
 use crate::diagram::Diagram;
-use crate::note::{print_note, print_report_begin};
-use crate::range::EventRange;
+use crate::note::print_note;
+use crate::scripts::print_scripts;
 use std::alloc::{AllocError, Global};
 use std::marker::Model;
 use vme_script::Config;
-use vme_trace::{Change, Observation, push_event};
+use vme_trace::{Change, EventRange, Observation, push_event};
 
 /// The diagrams of a page so far.
 #[derive(Drop)]
@@ -73,11 +73,12 @@ impl Drawing {
         Ok(())
     }
 
-    /// Appends what follows the diagrams: the end of the open strip, a note, and the begin of the
+    /// Appends what follows the diagrams: the open strip, a note, the scripts, and the begin of the
     /// report.
     pub(crate) fn print_ending(
         &mut self,
         text: &mut Vec<u8>,
+        config: &Config,
         range: EventRange,
     ) -> Result<(), AllocError>
         ensures { self.new ≡ record self.old {
@@ -86,7 +87,7 @@ impl Drawing {
     {
         self.diagram.print_end(text)?;
         print_note(text, range, self.count)?;
-        print_report_begin(text)
+        print_scripts(text, config)
     }
 }
 

@@ -7,13 +7,14 @@ ghost use Rattle.vme_engines.specs.Files.{Configures, IsRefusedAs};
 ghost use Rattle.vme_page.specs.Pages.{AppendsPage};
 
 use crate::page::write_page;
-use crate::range::EventRange;
 use std::alloc::Global;
 use vme_engines::{FILE_LIMIT, ProgramFault, read_config};
 use vme_io::{Sink, Source};
+use vme_trace::EventRange;
 
 /// Runs the scripts of a configuration file by the turns of its schedule and then by its rounds,
-/// and writes a page with the timing diagrams of some events and with the report.
+/// and writes a page with the timing diagrams of some events, the scripts and the report. Its title
+/// is the last part of the path `name`.
 ///
 /// The engine first reads the input, to its end or to one byte past `FILE_LIMIT`; then it writes
 /// while the run goes on. If the reader has no byte model, only the fault clauses hold; if the
@@ -26,6 +27,7 @@ use vme_io::{Sink, Source};
 /// fault, a prefix of the page was written, or nothing.
 pub fn page_engine<R: Source, W: Sink>(
     alloc: Global,
+    name: &str,
     range: EventRange,
     reader: &mut R,
     writer: &mut W,
@@ -46,6 +48,6 @@ pub fn page_engine<R: Source, W: Sink>(
     ensures faults { IfErr result IsStepFault }
 {
     let config = read_config(alloc, reader)?;
-    write_page(alloc, &config, range, writer)?;
+    write_page(alloc, name, &config, range, writer)?;
     Ok(())
 }

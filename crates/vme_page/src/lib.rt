@@ -9,10 +9,10 @@ mod diagrams;
 mod drawing;
 mod engine;
 mod head;
+mod line;
 mod note;
 mod page;
-mod range;
+mod scripts;
 
 pub use engine::page_engine;
 pub use page::write_page;
-pub use range::EventRange;

@@ -1,8 +1,8 @@
-//! The note where events are not shown, the begin of the report, and the end of the page.
+//! The note where events are not shown, and the end of the page.
 
-use crate::range::EventRange;
 use std::alloc::AllocError;
 use vme_grammar::print_number;
+use vme_trace::EventRange;
 
 /// Appends which events are shown, if some are not. `count` is the number of events so far, of which
 /// the last may be past those that are shown.
@@ -51,12 +51,7 @@ fn print_last(text: &mut Vec<u8>) -> Result<(), AllocError> {
     text.extend_from_slice(b" They are the last of the run.</p>\n")
 }
 
-/// Appends the begin of the report.
-pub(crate) fn print_report_begin(text: &mut Vec<u8>) -> Result<(), AllocError> {
-    text.extend_from_slice(b"<h2>Report</h2>\n<pre>\n")
-}
-
 /// Returns the end of the page, after the report.
 pub(crate) fn page_end() -> &'static [u8] {
-    b"</pre>\n</body>\n</html>\n"
+    b"</pre></div>\n</body>\n</html>\n"
 }

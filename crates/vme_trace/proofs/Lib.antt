@@ -3,5 +3,7 @@ pub mod Pending
 pub mod Appends
 pub mod Digits
 pub mod Ranges
+pub mod Edges
+pub mod Mapping
 pub mod TurnsLeft
 pub mod Tracing

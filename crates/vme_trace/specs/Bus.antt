@@ -1,13 +1,14 @@
 -- The lines of the bus in the handshakes of an event.
 use Rattle.std.specs.Prelude.{ℕ, ◌+◌, ◌-◌, ◌*◌, ◌/◌, ◌%◌, Bool, not, ◌==◌, ◌&&◌, if◌then◌else◌, List, [], ◌∷◌, ◌++◌, slice_index_or, Option, Some, None}
+use Rattle.vme_cycle.specs.SignalLines.{SignalLines}
 use Rattle.vme_trace.specs.declared.dump.change.Change.{Change}
 use Rattle.vme_trace.specs.declared.dump.change.Value.TheVariants.{Low, High, Free, Released, Number, Lanes}
 use Rattle.vme_trace.specs.declared.dump.handshake.Handshake.{Handshake}
 use Rattle.vme_trace.specs.declared.dump.edge.TheConstants.{BEGIN, FIRST, SECOND, MASTER_DRIVES, STROBES_FALL, BOARD_DRIVES, ANSWER_FALLS, STROBES_RISE, DATA_RELEASED, ANSWER_RISES, ADDRESS_RELEASED}
 use Rattle.vme_trace.specs.declared.dump.variable.Variable.{Variable}
-use Rattle.vme_trace.specs.declared.dump.variable.Variable.TheVariants.{AddressStrobe, AddressModifier, AddressLines, FirstAddressLine, LongWord, WriteLine, FirstStrobe, SecondStrobe, DataLines, UpperDataLines, Acknowledge, BusError}
+use Rattle.vme_trace.specs.declared.dump.variable.Variable.TheVariants.{AddressStrobe, AddressModifier, AddressLines, LongWord, WriteLine, FirstStrobe, SecondStrobe, DataLines, UpperDataLines, Acknowledge, BusError}
 use Rattle.vme_trace.specs.Variables.{code_of}
-use Rattle.vme_trace.specs.Changes.{level_of, change_if}
+use Rattle.vme_trace.specs.Changes.{level_of, change_if, no_lanes}
 use Rattle.vme_trace.specs.Handshakes.{edge_of}
 
 -- the edge at which the data are driven: by the master at the begin, and by the board once the strobes are low;
@@ -48,12 +49,16 @@ address_strobe_changes t =
     ++ (change_if t.opens BEGIN (code_of AddressModifier) (Number 6 t.lines.am.code)
     ++ change_if t.ends (edge_of t ADDRESS_RELEASED) (code_of AddressModifier) Released))
 
--- A31 to A02, which carry D63 to D34 in eight-byte data
+-- A31 to A01 as a number whose lowest bit, A00, is no line and 0
+abbrev pub address_number : SignalLines → ℕ
+address_number s = if s.strobes.a01 then s.addr + 2 else s.addr
+
+-- A31 to A01, which carry D63 to D33 in eight-byte data
 unfoldable pub address_changes : Handshake → List Change
 address_changes t =
-    change_if t.opens BEGIN (code_of AddressLines) (Number 32 t.lines.addr)
+    change_if t.opens BEGIN (code_of AddressLines) (Number 32 (address_number t.lines))
     ++ (change_if t.clears SECOND (code_of AddressLines) Released
-    ++ (change_if (is_wide t) (drive_edge t) (code_of AddressLines) (Number 32 (upper_number t.lines.lanes - upper_number t.lines.lanes % 4))
+    ++ (change_if (is_wide t) (drive_edge t) (code_of AddressLines) (Number 32 (upper_number t.lines.lanes - upper_number t.lines.lanes % 2))
     ++ (change_if (is_wide t) (edge_of t DATA_RELEASED) (code_of AddressLines) Released
     ++ change_if t.ends (edge_of t ADDRESS_RELEASED) (code_of AddressLines) Released)))
 
@@ -66,14 +71,13 @@ address_level_changes t variable level bit =
     ++ (change_if (is_wide t) (edge_of t DATA_RELEASED) (code_of variable) Free
     ++ change_if t.ends (edge_of t ADDRESS_RELEASED) (code_of variable) Free)))
 
--- A01, LWORD* and WRITE*
+-- LWORD* and WRITE*
 unfoldable pub level_changes : Handshake → List Change
 level_changes t =
-    address_level_changes t FirstAddressLine t.lines.strobes.a01 (upper_number t.lines.lanes / 2 % 2 == 1)
-    ++ (address_level_changes t LongWord t.lines.strobes.lword (upper_number t.lines.lanes % 2 == 1)
+    address_level_changes t LongWord t.lines.strobes.lword (upper_number t.lines.lanes % 2 == 1)
     ++ (change_if t.opens BEGIN (code_of WriteLine) (level_of t.lines.write)
     ++ (change_if t.falls SECOND (code_of WriteLine) Low
-    ++ change_if t.ends (edge_of t ADDRESS_RELEASED) (code_of WriteLine) Free)))
+    ++ change_if t.ends (edge_of t ADDRESS_RELEASED) (code_of WriteLine) Free))
 
 -- DS1* and DS0*, those that the location has low; IEEE 1014-1987, 2.2.1 and 2.4
 unfoldable pub data_strobe_changes : Handshake → List Change
@@ -87,9 +91,9 @@ data_strobe_changes t =
 unfoldable pub data_changes : Handshake → List Change
 data_changes t =
     change_if t.carries (drive_edge t) (code_of DataLines) (Lanes (lower_lanes t.lines.lanes))
-    ++ (change_if t.carries (edge_of t DATA_RELEASED) (code_of DataLines) Released
+    ++ (change_if t.carries (edge_of t DATA_RELEASED) (code_of DataLines) no_lanes
     ++ (change_if (is_wide t) (drive_edge t) (code_of UpperDataLines) (Lanes (upper_lanes t.lines.lanes))
-    ++ change_if (is_wide t) (edge_of t DATA_RELEASED) (code_of UpperDataLines) Released))
+    ++ change_if (is_wide t) (edge_of t DATA_RELEASED) (code_of UpperDataLines) no_lanes))
 
 -- DTACK* or BERR*, which falls while a strobe is low, and rises after both are high; IEEE 1014-1987, 2.4
 unfoldable pub answer_changes : Handshake → List Change

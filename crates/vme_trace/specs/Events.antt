@@ -1,5 +1,5 @@
--- The changes of an event, and the text of a run.
-use Rattle.std.specs.Prelude.{ℕ, ◌+◌, Bool, true, false, List, [], ◌∷◌, ◌++◌, flat_map, Option, Some, None, is_some}
+-- The changes of an event.
+use Rattle.std.specs.Prelude.{ℕ, ◌+◌, Bool, true, false, List, ◌++◌, flat_map, Option, Some, None, is_some}
 use Rattle.std.specs.List.{range_with_len}
 use Rattle.vme_trace.specs.declared.observation.grant.Grant.{Grant}
 use Rattle.vme_trace.specs.declared.observation.Observation.{Observation}
@@ -8,7 +8,7 @@ use Rattle.vme_trace.specs.declared.dump.change.Value.TheVariants.{Low, High, Re
 use Rattle.vme_trace.specs.declared.dump.edge.TheConstants.{BEGIN, BUSY_FALLS, REQUEST_RISES}
 use Rattle.vme_trace.specs.declared.dump.variable.Variable.TheVariants.{EventNumber, EventSlot, Holder, BusBusy, BusRequest}
 use Rattle.vme_trace.specs.Variables.{code_of}
-use Rattle.vme_trace.specs.Changes.{change_if, event_text, end_text}
+use Rattle.vme_trace.specs.Changes.{change_if}
 use Rattle.vme_trace.specs.Handshakes.{first_handshake, second_handshake}
 use Rattle.vme_trace.specs.Bus.{some_handshake_changes}
 use Rattle.vme_trace.specs.Slots.{requests, releases, release_edge, grant_edge, slot_changes}
@@ -57,8 +57,3 @@ bus_changes n o =
 -- the changes of event n on a backplane with so many boards: the variables of the bus, and then those of each slot
 unfoldable pub event_changes : ℕ → ℕ → Observation → List Change
 event_changes boards n o = bus_changes n o ++ flat_map (slot_changes o) (range_with_len 0 boards)
-
--- the text of events after n others, and of the end
-abbrev pub events_text : ℕ → ℕ → List Observation → List ℕ
-events_text boards n [] = end_text n
-events_text boards n (o ∷ events) = event_text (n + 1) (event_changes boards (n + 1) o) ++ events_text boards (n + 1) events

@@ -8,7 +8,10 @@ pub mod Bus
 pub mod Ports
 pub mod Slots
 pub mod Events
-pub mod Headers
 pub mod Shown
+pub mod Values
+pub mod Selections
+pub mod Headers
+pub mod Dumps
 pub mod Turns
 pub mod Traces

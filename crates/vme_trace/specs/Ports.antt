@@ -13,7 +13,7 @@ use Rattle.vme_trace.specs.declared.dump.port.PortAccess.{PortAccess}
 use Rattle.vme_trace.specs.declared.dump.edge.TheConstants.{BEGIN, FIRST, SECOND, BOARD_DRIVES, ANSWER_FALLS, STROBES_RISE, DATA_RELEASED, ANSWER_RISES, ADDRESS_RELEASED}
 use Rattle.vme_trace.specs.declared.dump.variable.Variable.TheVariants.{PortSelect, PortWrite, PortOffset, PortData, PortDone, PortError}
 use Rattle.vme_trace.specs.Variables.{code_of}
-use Rattle.vme_trace.specs.Changes.{level_of, change_if}
+use Rattle.vme_trace.specs.Changes.{level_of, change_if, no_lanes}
 use Rattle.vme_trace.specs.Handshakes.{is_berr}
 
 -- one, two or four bytes on the low lanes; no other number of bytes is accessed
@@ -73,8 +73,8 @@ lanes_if (Some lanes) edge code = change_if true edge code (Lanes lanes)
 unfoldable pub bytes_changes : ℕ → PortAccess → List Change
 bytes_changes board a =
     lanes_if a.bytes (if a.write then FIRST else FIRST + BOARD_DRIVES) (code_of (PortData board))
-    ++ (change_if (is_some a.bytes) (FIRST + DATA_RELEASED) (code_of (PortData board)) Released
-    ++ (lanes_if a.new SECOND (code_of (PortData board)) ++ change_if (is_some a.new) (SECOND + DATA_RELEASED) (code_of (PortData board)) Released))
+    ++ (change_if (is_some a.bytes) (FIRST + DATA_RELEASED) (code_of (PortData board)) no_lanes
+    ++ (lanes_if a.new SECOND (code_of (PortData board)) ++ change_if (is_some a.new) (SECOND + DATA_RELEASED) (code_of (PortData board)) no_lanes))
 
 -- the reply: done, or a bus error
 unfoldable pub reply_changes : ℕ → PortAccess → List Change

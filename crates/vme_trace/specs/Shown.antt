@@ -1,5 +1,5 @@
 -- What a viewer shows of a dump: the value of each variable at each edge of an event, and after the events of a run.
-use Rattle.std.specs.Prelude.{ℕ, zero, suc, ◌+◌, Bool, false, ◌==◌, ◌&&◌, if◌then◌else◌, List, [], ◌∷◌, length, Option, Some, None, is_none}
+use Rattle.std.specs.Prelude.{ℕ, zero, suc, ◌+◌, nat_le, nat_lt, Bool, false, ◌==◌, ◌&&◌, if◌then◌else◌, List, [], ◌∷◌, length, Option, Some, None, is_none}
 use Rattle.vme_trace.specs.declared.observation.Observation.{Observation}
 use Rattle.vme_trace.specs.declared.dump.change.Code.{Code}
 use Rattle.vme_trace.specs.declared.dump.change.Change.{Change}
@@ -20,6 +20,10 @@ is_code variable code = is_letter variable.second code.second && code.first == v
 -- whether a change is one of this variable at this edge
 abbrev pub is_at : Code → ℕ → Change → Bool
 is_at variable k c = is_code variable c.code && c.edge == k
+
+-- whether a change is one of a variable from an edge on, and before an end
+abbrev pub is_due : Code → ℕ → ℕ → Change → Bool
+is_due code edge end c = is_code code c.code && nat_le edge c.edge && nat_lt c.edge end
 
 -- the value of a variable after the changes of an edge, by its value before them
 unfoldable pub value_after : Code → ℕ → List Change → Value → Value

@@ -8,7 +8,7 @@ use Rattle.vme_trace.specs.declared.observation.grant.Grant.{Grant}
 use Rattle.vme_trace.specs.declared.observation.Observation.{Observation}
 use Rattle.vme_trace.specs.declared.dump.handshake.Handshake.{Handshake}
 use Rattle.vme_trace.specs.declared.dump.change.Change.{Change}
-use Rattle.vme_trace.specs.declared.dump.change.Value.TheVariants.{Low, High, Released, Number}
+use Rattle.vme_trace.specs.declared.dump.change.Value.TheVariants.{Low, High, Released, Number, Grants}
 use Rattle.vme_trace.specs.declared.dump.port.PortAccess.{PortAccess}
 use Rattle.vme_trace.specs.declared.dump.edge.TheConstants.{BEGIN, FIRST, SECOND, RELEASE, END, STROBES_RISE, GRANT, BUSY_FALLS, REQUEST_RISES, GRANT_ENDS}
 use Rattle.vme_trace.specs.declared.dump.variable.Variable.TheVariants.{CurrentLine, RequestLine, GrantLines, BusyLine, Selected}
@@ -46,7 +46,7 @@ abbrev pub passes_grant : Option Grant → ℕ → Bool
 passes_grant None board = false
 passes_grant (Some grant) board = nat_le board grant.board
 
--- BG3IN* to BG0IN* as a number: one of them is low in a grant
+-- BG3IN* to BG0IN* as bits: one of them is low in a grant
 abbrev pub grant_lines : Option Grant → ℕ
 grant_lines None = 15
 grant_lines (Some grant) = if grant.level == 0 then 14 else if grant.level == 1 then 13 else if grant.level == 2 then 11 else 7
@@ -89,8 +89,8 @@ request_changes o board =
 -- the slot's BG3IN* to BG0IN*, on the daisy chain
 unfoldable pub chain_changes : Observation → ℕ → List Change
 chain_changes o board =
-    change_if (passes_grant o.grant board) (grant_edge o.activity) (code_of (GrantLines board)) (Number 4 (grant_lines o.grant))
-    ++ change_if (passes_grant o.grant board) (grant_edge o.activity + GRANT_ENDS) (code_of (GrantLines board)) (Number 4 15)
+    change_if (passes_grant o.grant board) (grant_edge o.activity) (code_of (GrantLines board)) (Grants (grant_lines o.grant))
+    ++ change_if (passes_grant o.grant board) (grant_edge o.activity + GRANT_ENDS) (code_of (GrantLines board)) (Grants 15)
 
 -- BBSY*, as the slot drives it
 unfoldable pub busy_changes : Observation → ℕ → List Change

@@ -2,7 +2,7 @@
 use Rattle.std.specs.Prelude.{ℕ, ◌+◌, ◌-◌, Some, None}
 use Rattle.vme_trace.specs.declared.dump.change.Code.{Code}
 use Rattle.vme_trace.specs.declared.dump.variable.Variable.{Variable}
-use Rattle.vme_trace.specs.declared.dump.variable.Variable.TheVariants.{EventNumber, EventSlot, Holder, BusBusy, BusRequest, AddressStrobe, AddressModifier, AddressLines, FirstAddressLine, LongWord, WriteLine, FirstStrobe, SecondStrobe, DataLines, UpperDataLines, Acknowledge, BusError, CurrentLine, RequestLine, GrantLines, BusyLine, Selected, PortSelect, PortWrite, PortOffset, PortData, PortDone, PortError}
+use Rattle.vme_trace.specs.declared.dump.variable.Variable.TheVariants.{EventNumber, EventSlot, Holder, BusBusy, BusRequest, AddressStrobe, AddressModifier, AddressLines, LongWord, WriteLine, FirstStrobe, SecondStrobe, DataLines, UpperDataLines, Acknowledge, BusError, CurrentLine, RequestLine, GrantLines, BusyLine, Selected, PortSelect, PortWrite, PortOffset, PortData, PortDone, PortError}
 
 -- the code of a variable of the bus: a letter
 abbrev pub bus_code : ℕ → Code
@@ -22,15 +22,14 @@ code_of (BusRequest level) = bus_code (72 - level)
 code_of AddressStrobe = bus_code 73
 code_of AddressModifier = bus_code 74
 code_of AddressLines = bus_code 75
-code_of FirstAddressLine = bus_code 76
-code_of LongWord = bus_code 77
-code_of WriteLine = bus_code 78
-code_of FirstStrobe = bus_code 79
-code_of SecondStrobe = bus_code 80
-code_of DataLines = bus_code 81
-code_of UpperDataLines = bus_code 82
-code_of Acknowledge = bus_code 83
-code_of BusError = bus_code 84
+code_of LongWord = bus_code 76
+code_of WriteLine = bus_code 77
+code_of FirstStrobe = bus_code 78
+code_of SecondStrobe = bus_code 79
+code_of DataLines = bus_code 80
+code_of UpperDataLines = bus_code 81
+code_of Acknowledge = bus_code 82
+code_of BusError = bus_code 83
 code_of (CurrentLine board) = slot_code board 97
 code_of (RequestLine board) = slot_code board 98
 code_of (GrantLines board) = slot_code board 99
@@ -53,7 +52,6 @@ board_of (BusRequest level) = 0
 board_of AddressStrobe = 0
 board_of AddressModifier = 0
 board_of AddressLines = 0
-board_of FirstAddressLine = 0
 board_of LongWord = 0
 board_of WriteLine = 0
 board_of FirstStrobe = 0

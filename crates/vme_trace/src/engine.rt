@@ -6,16 +6,17 @@ ghost use Rattle.vme_script.specs.Configurations.{Configuration};
 ghost use Rattle.vme_engines.specs.Faults.{IsStepFault, ReadsWithin, WritesPrefix, is_read_failure, is_write_failure};
 ghost use Rattle.vme_engines.specs.Files.{Configures, IsRefusedAs};
 ghost use Rattle.vme_stepper.specs.Schedules.{file_turns};
-ghost use Rattle.vme_trace.specs.Headers.{vcd_text};
+ghost use Rattle.vme_trace.specs.Dumps.{vcd_text};
 ghost use Rattle.vme_trace.specs.Traces.{IsTraceText};
 
+use crate::progress::Selection;
 use crate::trace::write_trace;
 use std::alloc::Global;
 use vme_engines::{FILE_LIMIT, ProgramFault, read_config};
 use vme_io::{Sink, Source};
 
 /// Runs the scripts of a configuration file by the turns of its schedule and then by its rounds,
-/// and writes the value change dump of the run.
+/// and writes the value change dump of the selected events of the run.
 ///
 /// The engine first reads the input, to its end or to one byte past `FILE_LIMIT`; then it writes
 /// while the run goes on. If the reader has no byte model, only the fault clauses hold; if the
@@ -28,6 +29,7 @@ use vme_io::{Sink, Source};
 /// fault, a prefix of the text was written, or nothing.
 pub fn trace_engine<R: Source, W: Sink>(
     alloc: Global,
+    selection: Selection,
     reader: &mut R,
     writer: &mut W,
 ) -> Result<(), ProgramFault>
@@ -35,9 +37,9 @@ pub fn trace_engine<R: Source, W: Sink>(
     requires writer_unmarked { W.is_marked writer.old ≡ false }
     ensures text { (config : Configuration) → IfSome (R.remaining reader.old) (λ input.
         Configures input config → OnOk result (Appends
-        (W.contents writer.old) (W.contents writer.new) (vcd_text config (file_turns config)))) }
+        (W.contents writer.old) (W.contents writer.new) (vcd_text selection config (file_turns config)))) }
     ensures prefix { IfSome (R.remaining reader.old) (λ input.
-        OnErr result (WritesPrefix (IsTraceText input)
+        OnErr result (WritesPrefix (IsTraceText selection input)
         (W.contents writer.old) (W.contents writer.new))) }
     ensures write { W.is_marked writer.new ≡ is_write_failure result }
     ensures read { IfSome (R.remaining reader.old) (λ input.
@@ -50,6 +52,6 @@ pub fn trace_engine<R: Source, W: Sink>(
     ensures faults { IfErr result IsStepFault }
 {
     let config = read_config(alloc, reader)?;
-    write_trace(alloc, &config, writer)?;
+    write_trace(alloc, selection, &config, writer)?;
     Ok(())
 }

@@ -8,13 +8,17 @@
 mod dump;
 mod engine;
 mod observation;
+mod progress;
+mod range;
+mod save;
 mod trace;
 mod turns;
 
-pub use dump::{
-    Change, Code, Value, Variable, edge, print_end, print_event, print_header, push_event,
-};
+pub use dump::{Change, Code, Value, Variable, edge, is_code, push_event, value_over};
 pub use engine::trace_engine;
 pub use observation::{Activity, Grant, Observation, TransferredDatum, observe_turn};
+pub use progress::Selection;
+pub use range::EventRange;
+pub use save::save_engine;
 pub use trace::write_trace;
 pub use turns::FileTurns;

@@ -2,6 +2,7 @@
 ghost use Rattle.std.specs.Prelude.{◌≡◌, ◌<◌, ◌-◌, ◌^◌, length};
 ghost use Rattle.vme_stepper.specs.Steppers.{stepper_turn, IsStepperOf, StepsWithin};
 ghost use Rattle.vme_trace.specs.Observations.{observed};
+ghost use Rattle.vme_trace.specs.Selections.{is_granted, poll_waits, waits};
 
 mod activity;
 mod grant;
@@ -10,6 +11,7 @@ use activity::activity_of;
 pub use activity::{Activity, TransferredDatum};
 pub use grant::Grant;
 use grant::grant_of;
+use vme_arbiter::ArbReply;
 use vme_core::EventReply;
 use vme_script::Config;
 use vme_stepper::Stepper;
@@ -33,6 +35,35 @@ pub struct Observation {
     pub ended: bool,
     /// The grant of the bus with this event, if there is one.
     pub grant: Option<Grant>,
+}
+
+impl Observation {
+    /// Returns whether it is a poll that waits.
+    pub fn waits(&self) -> bool
+        ensures { result ≡ waits self.now }
+    {
+        poll_waits(&self.activity, &self.reply)
+    }
+}
+
+/// Returns whether an activity with its reply is a poll that waits.
+fn poll_waits(activity: &Activity, reply: &EventReply) -> bool
+    ensures { result ≡ poll_waits activity.now reply.now }
+{
+    match activity {
+        Activity::Polls => !is_granted(reply),
+        _ => false,
+    }
+}
+
+/// Returns whether a reply grants the bus.
+fn is_granted(reply: &EventReply) -> bool
+    ensures { result ≡ is_granted reply.now }
+{
+    match reply {
+        EventReply::Bus(reply) => matches!(reply, ArbReply::Granted),
+        _ => false,
+    }
 }
 
 /// Performs a turn of the processor of the board with index `board`. Returns what it did, or `None`

@@ -15,3 +15,4 @@ pub mod EventLines
 pub mod Rules
 pub mod EventEnds
 pub mod SlotEnds
+pub mod Polls

@@ -41,7 +41,7 @@ abbrev pub event_strobe : ℕ → ℕ → Observation → ℕ → Value
 event_strobe boards n o =
     value_at address_strobe (event_changes boards n o) (strobe_before (first_handshake o.activity o.reply))
 
--- BG3IN* to BG0IN* of a board's slot, as a number
+-- BG3IN* to BG0IN* of a board's slot
 abbrev pub grant_lines_in : ℕ → Code
 grant_lines_in board = code_of (GrantLines board)
 

@@ -4,7 +4,7 @@ use Rattle.vme_trace.specs.declared.dump.change.Code.{Code}
 use Rattle.vme_trace.specs.declared.dump.change.Value.{Value}
 use Rattle.vme_trace.specs.declared.dump.change.Value.TheVariants.{Low, High}
 use Rattle.vme_trace.specs.declared.dump.handshake.Handshake.{Handshake}
-use Rattle.vme_trace.specs.declared.dump.variable.Variable.TheVariants.{AddressStrobe, AddressModifier, AddressLines, FirstAddressLine, LongWord, WriteLine, FirstStrobe, SecondStrobe, DataLines, UpperDataLines, Acknowledge, BusError}
+use Rattle.vme_trace.specs.declared.dump.variable.Variable.TheVariants.{AddressStrobe, AddressModifier, AddressLines, LongWord, WriteLine, FirstStrobe, SecondStrobe, DataLines, UpperDataLines, Acknowledge, BusError}
 use Rattle.vme_trace.specs.Variables.{code_of}
 use Rattle.vme_trace.specs.Bus.{handshake_changes}
 use Rattle.vme_trace.specs.Shown.{value_at}
@@ -17,13 +17,9 @@ address_strobe = code_of AddressStrobe
 abbrev pub address_modifier : Code
 address_modifier = code_of AddressModifier
 
--- A31 to A02
+-- A31 to A01
 abbrev pub address_lines : Code
 address_lines = code_of AddressLines
-
--- A01
-abbrev pub first_address_line : Code
-first_address_line = code_of FirstAddressLine
 
 -- LWORD*
 abbrev pub long_word : Code

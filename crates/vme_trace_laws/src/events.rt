@@ -3,7 +3,8 @@ ghost use Rattle.vme_trace.specs.declared.observation.Observation.{Observation};
 ghost use Rattle.vme_trace.specs.declared.dump.handshake.Handshake.{Handshake};
 ghost use Rattle.vme_trace.specs.declared.dump.change.Code.{Code};
 ghost use Rattle.vme_trace.specs.declared.dump.change.Value.{Value};
-ghost use Rattle.vme_trace.specs.declared.dump.change.Value.TheVariants.{Low, High, Released, Number, Lanes};
+ghost use Rattle.vme_trace.specs.declared.dump.change.Value.TheVariants.{Low, High, Lanes, Grants};
+ghost use Rattle.vme_trace.specs.Changes.{no_lanes};
 ghost use Rattle.vme_trace.specs.declared.dump.edge.TheConstants.{END, STROBES_RISE};
 ghost use Rattle.vme_trace.specs.declared.dump.variable.Variable.{Variable};
 ghost use Rattle.vme_trace.specs.Variables.{code_of};
@@ -58,11 +59,11 @@ pub fn events_end_at_rest()
     ensures answers { (boards n : ℕ) (o : Observation) (line : Code) → IsAnswer line →
         event_line boards n o line END ≡ High }
     ensures data { (boards n : ℕ) (o : Observation) →
-        value_at data_lines (event_changes boards n o) Released END ≡ Released }
+        value_at data_lines (event_changes boards n o) no_lanes END ≡ no_lanes }
     ensures upper { (boards n : ℕ) (o : Observation) →
-        value_at upper_data_lines (event_changes boards n o) Released END ≡ Released }
+        value_at upper_data_lines (event_changes boards n o) no_lanes END ≡ no_lanes }
     ensures grants { (boards n : ℕ) (o : Observation) (board : ℕ) → board < boards →
-        value_at (grant_lines_in board) (event_changes boards n o) (Number 4 15) END ≡ Number 4 15 }
+        value_at (grant_lines_in board) (event_changes boards n o) (Grants 15) END ≡ Grants 15 }
     ensures ports { (boards n : ℕ) (o : Observation) (board : ℕ) (variable : Variable) →
         board < boards → IsPortLine board variable →
         value_at (code_of variable) (event_changes boards n o) Low END ≡ Low }

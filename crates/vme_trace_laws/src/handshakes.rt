@@ -4,8 +4,8 @@ ghost use Rattle.vme_trace.specs.declared.dump.change.Code.{Code};
 ghost use Rattle.vme_trace.specs.declared.dump.change.Value.{Value};
 ghost use Rattle.vme_trace.specs.declared.dump.change.Value.TheVariants.{Low, Number, Lanes};
 ghost use Rattle.vme_trace.specs.Changes.{level_of};
-ghost use Rattle.vme_trace.specs.Bus.{is_wide, lower_lanes, handshake_changes};
-ghost use Rattle.vme_trace_laws.specs.Shown.{address_strobe_at, line_at, address_modifier, address_lines, first_address_line, long_word, write_line, first_strobe, second_strobe, data_lines, acknowledge, bus_error, IsStrobe, IsAnswer, HasStrobe};
+ghost use Rattle.vme_trace.specs.Bus.{address_number, is_wide, lower_lanes, handshake_changes};
+ghost use Rattle.vme_trace_laws.specs.Shown.{address_strobe_at, line_at, address_modifier, address_lines, long_word, write_line, first_strobe, second_strobe, data_lines, acknowledge, bus_error, IsStrobe, IsAnswer, HasStrobe};
 ghost use Rattle.vme_trace.specs.Shown.{value_at};
 
 /// States that a data strobe is low only while AS* is low (IEEE 1014-1987, 2.4).
@@ -46,10 +46,7 @@ pub fn the_address_stands_under_the_answer()
         value_at address_modifier (handshake_changes t) before k ≡ Number 6 t.lines.am.code }
     ensures address { (t : Handshake) (line : Code) (k : ℕ) (before : Value) → IsTrue t.opens →
         is_wide t ≡ false → t.clears ≡ false → IsAnswer line → line_at t line k ≡ Low →
-        value_at address_lines (handshake_changes t) before k ≡ Number 32 t.lines.addr }
-    ensures first { (t : Handshake) (line : Code) (k : ℕ) (before : Value) → IsTrue t.opens →
-        is_wide t ≡ false → t.clears ≡ false → IsAnswer line → line_at t line k ≡ Low →
-        value_at first_address_line (handshake_changes t) before k ≡ level_of t.lines.strobes.a01 }
+        value_at address_lines (handshake_changes t) before k ≡ Number 32 (address_number t.lines) }
     ensures long_word { (t : Handshake) (line : Code) (k : ℕ) (before : Value) → IsTrue t.opens →
         is_wide t ≡ false → t.clears ≡ false → IsAnswer line → line_at t line k ≡ Low →
         value_at long_word (handshake_changes t) before k ≡ level_of t.lines.strobes.lword }

@@ -1,9 +1,11 @@
 //! Laws of waveforms: what a viewer shows of a handshake and of an event follows the rules of the bus;
-//! and in a whole run each event is shown once, one slot drives BBSY*, and AS* is low in each transfer.
+//! and in a whole run each event is shown once, one slot drives BBSY*, and AS* is low in each transfer. Polls
+//! that wait change no line.
 #![tactic(auto)]
 
 mod events;
 mod handshakes;
+mod polls;
 mod runs;
 mod strobes;
 
@@ -12,5 +14,6 @@ pub use handshakes::{
     answers_follow_the_strobes, data_stand_under_the_answer,
     strobes_are_low_under_the_address_strobe, the_address_stands_under_the_answer,
 };
+pub use polls::waiting_polls_change_no_line;
 pub use runs::{each_event_is_shown_once, one_slot_drives_busy, runs_end_at_rest};
 pub use strobes::the_address_strobe_stays_low_in_a_transfer;

@@ -11,8 +11,8 @@ ghost use Rattle.vme_trace.specs.declared.observation.Observation.{Observation};
 ghost use Rattle.vme_trace.specs.Observations.{observations};
 ghost use Rattle.vme_trace.specs.declared.dump.change.Code.{Code};
 ghost use Rattle.vme_trace.specs.declared.dump.change.Value.{Value};
-ghost use Rattle.vme_trace.specs.declared.dump.change.Value.TheVariants.{Low, High, Released, Number};
-ghost use Rattle.vme_trace.specs.Changes.{level_of};
+ghost use Rattle.vme_trace.specs.declared.dump.change.Value.TheVariants.{Low, High, Released, Number, Grants};
+ghost use Rattle.vme_trace.specs.Changes.{level_of, no_lanes};
 ghost use Rattle.vme_trace.specs.declared.dump.variable.Variable.{Variable};
 ghost use Rattle.vme_trace.specs.Variables.{code_of};
 ghost use Rattle.vme_trace_laws.specs.Shown.{data_lines, upper_data_lines, IsStrobe, IsAnswer};
@@ -73,14 +73,14 @@ pub fn runs_end_at_rest()
     ensures answers { (config : Configuration) (slots : List ℕ) (line : Code) → IsAnswer line →
         value_after_run line (length config.boards) (observations config slots) High ≡ High }
     ensures data { (config : Configuration) (slots : List ℕ) →
-        value_after_run data_lines (length config.boards) (observations config slots) Released
-        ≡ Released }
+        value_after_run data_lines (length config.boards) (observations config slots) no_lanes
+        ≡ no_lanes }
     ensures upper { (config : Configuration) (slots : List ℕ) →
-        value_after_run upper_data_lines (length config.boards) (observations config slots) Released
-        ≡ Released }
+        value_after_run upper_data_lines (length config.boards) (observations config slots) no_lanes
+        ≡ no_lanes }
     ensures grants { (config : Configuration) (slots : List ℕ) (board : ℕ) →
         board < length config.boards → value_after_run (grant_lines_in board)
-        (length config.boards) (observations config slots) (Number 4 15) ≡ Number 4 15 }
+        (length config.boards) (observations config slots) (Grants 15) ≡ Grants 15 }
     ensures ports { (config : Configuration) (slots : List ℕ) (board : ℕ) (variable : Variable) →
         board < length config.boards → IsPortLine board variable → value_after_run (code_of variable)
         (length config.boards) (observations config slots) Low ≡ Low }

@@ -5,7 +5,7 @@ ghost use Rattle.vme_page.specs.Accesses.{is_high, is_raised, number_in, access_
 use crate::diagram::layout::LocalPort;
 use crate::diagram::point::{Point, first_value, number_of};
 use crate::diagram::row::print_number;
-use crate::diagram::shape::{begin_text, end_text, print_rectangle, print_words};
+use crate::diagram::shape::{begin_text, end_text, print_numbered, print_rectangle, print_words};
 use crate::diagram::window::Window;
 use std::alloc::AllocError;
 use vme_grammar::print_hex;
@@ -39,7 +39,7 @@ pub(crate) fn print_port(
     match first_value(points, window, port.write, changes)? {
         Some(write) => {
             let access = access_by(points, window, changes, port, write)?;
-            print_access(text, access, y)
+            print_access(text, port.slot, access, y)
         }
         None => Ok(()),
     }
@@ -94,42 +94,50 @@ fn number_in(value: Option<Value>) -> u32
 }
 
 /// Appends an access.
-fn print_access(text: &mut Vec<u8>, access: Access, y: u16) -> Result<(), AllocError> {
+fn print_access(text: &mut Vec<u8>, slot: u16, access: Access, y: u16) -> Result<(), AllocError> {
     print_frame(text, access.error, y)?;
-    print_offset(text, access, y)?;
-    print_result(text, access, y)
+    print_slot(text, slot, access.write, u32::from(y) + 13)?;
+    print_offset(text, access.offset, u32::from(y) + 28)?;
+    print_result(text, access, u32::from(y) + 43)
 }
 
 /// Appends the frame of an access.
 fn print_frame(text: &mut Vec<u8>, error: bool, y: u16) -> Result<(), AllocError> {
     if error {
-        print_rectangle(text, b"v x", 10, 96, y, 30)
+        print_rectangle(text, b"v x", 8, 98, y, 48)
     } else {
-        print_rectangle(text, b"v", 10, 96, y, 30)
+        print_rectangle(text, b"v", 8, 98, y, 48)
     }
 }
 
-/// Appends the upper line of an access: whether it reads or writes, and the offset.
-fn print_offset(text: &mut Vec<u8>, access: Access, y: u16) -> Result<(), AllocError> {
-    begin_text(text, b"t", MIDDLE, u32::from(y) + 12)?;
-    print_direction(text, access.write)?;
-    print_number(text, access.offset)?;
+/// Appends the first line of an access: the slot, and whether it reads or writes.
+fn print_slot(text: &mut Vec<u8>, slot: u16, write: bool, y: u32) -> Result<(), AllocError> {
+    begin_text(text, b"t", MIDDLE, y)?;
+    print_numbered(text, b"slot ", u32::from(slot))?;
+    print_direction(text, write)?;
     end_text(text)
 }
 
 /// Appends whether an access reads or writes.
 fn print_direction(text: &mut Vec<u8>, write: bool) -> Result<(), AllocError> {
     if write {
-        text.extend_from_slice(b"w ")
+        text.extend_from_slice(b" w")
     } else {
-        text.extend_from_slice(b"r ")
+        text.extend_from_slice(b" r")
     }
 }
 
-/// Appends the lower line of an access: its bytes, or that it is an error.
-fn print_result(text: &mut Vec<u8>, access: Access, y: u16) -> Result<(), AllocError> {
+/// Appends the second line of an access: the offset.
+fn print_offset(text: &mut Vec<u8>, offset: u32, y: u32) -> Result<(), AllocError> {
+    begin_text(text, b"t", MIDDLE, y)?;
+    print_number(text, offset)?;
+    end_text(text)
+}
+
+/// Appends the last line of an access: its bytes, or that it is an error.
+fn print_result(text: &mut Vec<u8>, access: Access, y: u32) -> Result<(), AllocError> {
     if access.error {
-        return print_words(text, b"b", MIDDLE, u32::from(y) + 25, b"error");
+        return print_words(text, b"b", MIDDLE, y, b"error");
     }
     match access.bytes {
         Some(Value::Lanes(lanes)) => print_bytes(text, &lanes, y),
@@ -138,8 +146,8 @@ fn print_result(text: &mut Vec<u8>, access: Access, y: u16) -> Result<(), AllocE
 }
 
 /// Appends the bytes of an access.
-fn print_bytes(text: &mut Vec<u8>, lanes: &[Option<u8>], y: u16) -> Result<(), AllocError> {
-    begin_text(text, b"t", MIDDLE, u32::from(y) + 25)?;
+fn print_bytes(text: &mut Vec<u8>, lanes: &[Option<u8>], y: u32) -> Result<(), AllocError> {
+    begin_text(text, b"t", MIDDLE, y)?;
     print_driven_lanes(text, lanes)?;
     end_text(text)
 }

@@ -1,23 +1,20 @@
 //! Cells: the heading, the bars, the lines of the bus, and the local ports.
-ghost use Rattle.std.specs.Prelude.{◌≡◌, ◌<◌, ◌≤◌, length, IfOk};
+ghost use Rattle.std.specs.Prelude.{◌≡◌, ◌<◌, ◌≤◌, IfOk};
 ghost use Rattle.vme_trace.specs.Variables.{board_of, code_of};
 ghost use Rattle.vme_page.specs.Cells.{number_or, modifier_of, bus_row, bus_rows, bar_rows};
 
 use crate::diagram::access::print_port;
-use crate::diagram::heading::{Heading, print_heading};
-use crate::diagram::layout::{Bar, LINE, Layout, bar_top};
+use crate::diagram::acting::Acts;
+use crate::diagram::layout::{Bar, LocalPort};
 use crate::diagram::levels::Levels;
+use crate::diagram::places::{LINE, Places};
 use crate::diagram::point::{Point, WIDTH, first_value, number_of};
 use crate::diagram::row::{Row, Style, print_rows};
 use crate::diagram::shape::{print_dots, print_numbered};
+use crate::diagram::strip::{CELL_WIDTH, NAMES_WIDTH};
 use crate::diagram::window::Window;
 use std::alloc::AllocError;
-use vme_trace::{Change, Observation, Value, Variable};
-
-/// The width of the names before the cells.
-const NAMES_WIDTH: u32 = 92;
-/// The width of a cell.
-const CELL_WIDTH: u32 = 104;
+use vme_trace::{Change, Value, Variable};
 
 /// A cell of an event.
 #[derive(Clone, Copy, Debug, PartialEq, Eq)]
@@ -30,19 +27,24 @@ pub(crate) struct Cell {
     pub(crate) levels: Levels,
 }
 
-/// Appends a cell of an event, whose changes these are.
+/// Appends a cell whose heading has this text, and whose event has these changes. The bars are those
+/// before it.
 pub(crate) fn print_cell(
     text: &mut Vec<u8>,
     points: &mut Vec<Point>,
-    layout: &Layout,
     cell: Cell,
-    heading: Heading,
-    event: &Observation,
+    heading: &[u8],
     changes: &[Change],
+    bars: &[Bar],
+    acts: &[Acts],
+    ports: &[LocalPort],
+    places: Places,
 ) -> Result<(), AllocError> {
-    begin_cell(text, cell.column, layout.height())?;
-    print_heading(text, heading, cell.window, event)?;
-    print_lines(text, points, layout, cell, changes)?;
+    begin_cell(text, cell.column, places.height)?;
+    text.extend_from_slice(heading)?;
+    print_bars(text, points, cell.window, changes, bars, acts, places.bars)?;
+    print_bus(text, points, cell, changes, places.bus)?;
+    print_local(text, points, cell.window, changes, ports, places.local)?;
     text.extend_from_slice(b"</g>\n")
 }
 
@@ -54,47 +56,24 @@ fn begin_cell(text: &mut Vec<u8>, column: u8, height: u16) -> Result<(), AllocEr
     text.extend_from_slice(b"'/>")
 }
 
-/// Appends the lines of a cell.
-fn print_lines(
-    text: &mut Vec<u8>,
-    points: &mut Vec<Point>,
-    layout: &Layout,
-    cell: Cell,
-    changes: &[Change],
-) -> Result<(), AllocError> {
-    let top = layout.bus_top();
-    print_bars(text, points, layout, cell.window, changes)?;
-    print_bus(text, points, cell, changes, top)?;
-    print_ports(text, points, cell.window, changes, layout)
-}
-
-/// Appends the bars.
+/// Appends the bars of the slots that act in the strip.
 fn print_bars(
     text: &mut Vec<u8>,
     points: &mut Vec<Point>,
-    layout: &Layout,
     window: Window,
     changes: &[Change],
+    bars: &[Bar],
+    acts: &[Acts],
+    top: u16,
 ) -> Result<(), AllocError> {
-    for i in 0..layout.bar_count() {
-        print_bar_at(text, points, layout, window, changes, i)?;
+    let mut y = top;
+    for i in 0..bars.len() {
+        if acts.get(i) == Some(&Acts::Drives) {
+            print_bar(text, points, window, changes, bars[i], y)?;
+            y = y.saturating_add(LINE);
+        }
     }
     Ok(())
-}
-
-/// Appends the bar at an index.
-fn print_bar_at(
-    text: &mut Vec<u8>,
-    points: &mut Vec<Point>,
-    layout: &Layout,
-    window: Window,
-    changes: &[Change],
-    i: usize,
-) -> Result<(), AllocError>
-    requires within { i < length layout.now.bars }
-    requires few { i ≤ 26 }
-{
-    print_bar(text, points, window, changes, layout.bar(i), bar_top(i))
 }
 
 /// Appends a bar, over dots.
@@ -131,34 +110,22 @@ fn bar_rows(bar: Bar, y: u16) -> [Row; 2]
     [request, busy]
 }
 
-/// Appends the local ports.
-fn print_ports(
+/// Appends the access of a local port, if the cell shows one.
+fn print_local(
     text: &mut Vec<u8>,
     points: &mut Vec<Point>,
     window: Window,
     changes: &[Change],
-    layout: &Layout,
+    ports: &[LocalPort],
+    top: Option<u16>,
 ) -> Result<(), AllocError> {
-    for i in 0..layout.port_count() {
-        print_port_at(text, points, window, changes, layout, i)?;
+    let Some(y) = top else {
+        return Ok(());
+    };
+    for port in ports {
+        print_port(text, points, window, changes, *port, y)?;
     }
     Ok(())
-}
-
-/// Appends the local port at an index.
-fn print_port_at(
-    text: &mut Vec<u8>,
-    points: &mut Vec<Point>,
-    window: Window,
-    changes: &[Change],
-    layout: &Layout,
-    i: usize,
-) -> Result<(), AllocError>
-    requires within { i < length layout.now.ports }
-    requires few { i ≤ 26 }
-{
-    let top = layout.port_top(i);
-    print_port(text, points, window, changes, layout.port(i), top)
 }
 
 /// Appends the lines of the bus.
@@ -167,10 +134,9 @@ fn print_bus(
     points: &mut Vec<Point>,
     cell: Cell,
     changes: &[Change],
-    y: u16,
-) -> Result<(), AllocError>
-    requires { y ≤ 1000 }
-{
+    top: u16,
+) -> Result<(), AllocError> {
+    let y = if 1000 < top { 1000 } else { top };
     let modifier = modifier_of(points, cell, changes)?;
     let rows = bus_rows(cell.column == 0, cell.levels, modifier, y);
     print_rows(text, points, cell.window, changes, &rows)
@@ -178,7 +144,7 @@ fn print_bus(
 
 /// Returns the lines of the bus, from the top.
 #[tactic(auto, unfolding(crate::specs::Cells::bus_rows))]
-fn bus_rows(leads: bool, levels: Levels, modifier: u8, y: u16) -> [Row; 11]
+fn bus_rows(leads: bool, levels: Levels, modifier: u8, y: u16) -> [Row; 10]
     requires { y ≤ 1000 }
     ensures { result ≡ bus_rows leads levels modifier y }
 {
@@ -204,46 +170,40 @@ fn bus_rows(leads: bool, levels: Levels, modifier: u8, y: u16) -> [Row; 11]
             y + 2 * LINE,
         ),
         bus_row(
-            Variable::FirstAddressLine,
-            levels.first_address_line,
-            Style::Level,
-            y + 3 * LINE,
-        ),
-        bus_row(
             Variable::AddressStrobe,
             levels.address_strobe,
             Style::Level,
-            y + 4 * LINE,
+            y + 3 * LINE,
         ),
         bus_row(
             Variable::FirstStrobe,
             levels.first_strobe,
             Style::Level,
-            y + 5 * LINE,
+            y + 4 * LINE,
         ),
         bus_row(
             Variable::SecondStrobe,
             levels.second_strobe,
             Style::Level,
-            y + 6 * LINE,
+            y + 5 * LINE,
         ),
         bus_row(
             Variable::DataLines,
             levels.data_lines,
             Style::Data,
-            y + 7 * LINE,
+            y + 6 * LINE,
         ),
         bus_row(
             Variable::Acknowledge,
             levels.acknowledge,
             Style::Level,
-            y + 8 * LINE,
+            y + 7 * LINE,
         ),
         bus_row(
             Variable::BusError,
             levels.bus_error,
             Style::Error,
-            y + 9 * LINE,
+            y + 8 * LINE,
         ),
     ]
 }

@@ -2,10 +2,12 @@
 
 use crate::diagram::shape::{begin_text, end_text, print_numbered};
 use crate::diagram::window::Window;
+use crate::scripts::print_line_of;
 use std::alloc::AllocError;
 use vme_arbiter::ArbReply;
 use vme_core::EventReply;
 use vme_grammar::print_number;
+use vme_script::Config;
 use vme_trace::{Activity, Observation, TransferredDatum};
 
 /// The middle of a cell.
@@ -25,13 +27,42 @@ pub(crate) struct Heading {
 /// Appends the heading of a cell. Only the first cell of an event has its names.
 pub(crate) fn print_heading(
     text: &mut Vec<u8>,
+    config: &Config,
     heading: Heading,
     window: Window,
     event: &Observation,
 ) -> Result<(), AllocError> {
+    print_title(text, config, event)?;
     print_names(text, is_first(window), heading.number, event)?;
-    begin_text(text, b"w", MIDDLE, 40)?;
+    begin_text(text, b"w", MIDDLE, 44)?;
     print_activity(text, heading, window, &event.activity, &event.reply)?;
+    end_text(text)
+}
+
+/// Appends the text of the line, which is shown when the pointer rests on the cell.
+fn print_title(text: &mut Vec<u8>, config: &Config, event: &Observation) -> Result<(), AllocError> {
+    text.extend_from_slice(b"<title>")?;
+    print_line_of(text, config, event.board, event.line)?;
+    text.extend_from_slice(b"</title>")
+}
+
+/// Appends the heading of a cell of polls that wait: the numbers of the first and of the last, and how
+/// many they are.
+pub(crate) fn print_folded(
+    text: &mut Vec<u8>,
+    first: u32,
+    last: u32,
+    count: u32,
+) -> Result<(), AllocError> {
+    begin_text(text, b"e", MIDDLE, 14)?;
+    print_number(text, u64::from(first))?;
+    if first < last {
+        print_numbered(text, b"-", last)?;
+    }
+    end_text(text)?;
+    begin_text(text, b"w", MIDDLE, 44)?;
+    print_number(text, u64::from(count))?;
+    text.extend_from_slice(if count == 1 { b" poll" } else { b" polls" })?;
     end_text(text)
 }
 
@@ -63,7 +94,7 @@ fn print_event_name(text: &mut Vec<u8>, number: u32) -> Result<(), AllocError> {
 
 /// Appends the slot and the line whose event it is.
 fn print_line_name(text: &mut Vec<u8>, slot: u16, line: u16) -> Result<(), AllocError> {
-    begin_text(text, b"s", MIDDLE, 28)?;
+    begin_text(text, b"s", MIDDLE, 29)?;
     print_number(text, u64::from(slot))?;
     print_numbered(text, b":", u32::from(line))?;
     end_text(text)

@@ -1,6 +1,6 @@
-//! Where the lines of a strip are.
-ghost use Rattle.std.specs.Prelude.{◌≡◌, ◌<◌, ◌≤◌, [], length, map, vec_len, IfOk};
-ghost use Rattle.vme_page.specs.Layouts.{bar_or, port_or, bars_after_run, ports_of, layout_past, bar_past};
+//! The bars and the local ports that strips can show.
+ghost use Rattle.std.specs.Prelude.{◌≡◌, ◌≤◌, [], map, vec_len, IfOk};
+ghost use Rattle.vme_page.specs.Layouts.{bars_after_run, ports_of, layout_past, bar_past};
 
 use crate::diagram::bars::{bars, ports};
 use crate::diagram::point::value_past;
@@ -9,17 +9,6 @@ use std::alloc::{AllocError, Global};
 use std::marker::Model;
 use vme_script::Config;
 use vme_trace::{Change, Code, Value};
-
-/// The top of the first bar.
-const TOP: u16 = 46;
-/// The distance between two lines.
-pub(crate) const LINE: u16 = 24;
-/// The distance between two local ports.
-const PORT: u16 = 36;
-/// The space between the kinds of lines.
-const SPACE: u16 = 6;
-/// The lines of the bus.
-const BUS_LINES: u16 = 10;
 
 /// A slot whose script has a line over the bus, and the lines of arbitration that it drives.
 #[derive(Clone, Copy, Debug, PartialEq, Eq)]
@@ -53,8 +42,7 @@ pub(crate) struct LocalPort {
     pub(crate) error: Code,
 }
 
-/// The lines of a strip, from the top: a bar for each slot that requests the bus, the lines of the
-/// bus, and the local ports.
+/// A bar for each slot that requests the bus, and the local ports.
 #[derive(Drop)]
 pub(crate) struct Layout {
     bars: Vec<Bar>,
@@ -83,55 +71,18 @@ impl Layout {
         })
     }
 
-    /// Returns the number of bars.
-    pub(crate) fn bar_count(&self) -> usize
-        ensures value { result ≡ length self.now.bars }
-        ensures few { result ≤ 26 }
+    /// Returns the bars.
+    pub(crate) fn bars(&self) -> &[Bar]
+        ensures { result.now ≡ self.now.bars }
     {
-        self.bars.len()
+        self.bars.as_slice()
     }
 
-    /// Returns a bar.
-    pub(crate) fn bar(&self, i: usize) -> Bar
-        requires { i < length self.now.bars }
-        ensures { result ≡ bar_or self.now.bars i }
+    /// Returns the local ports.
+    pub(crate) fn ports(&self) -> &[LocalPort]
+        ensures { result.now ≡ self.now.ports }
     {
-        self.bars[i]
-    }
-
-    /// Returns the number of local ports.
-    pub(crate) fn port_count(&self) -> usize
-        ensures value { result ≡ length self.now.ports }
-        ensures few { result ≤ 26 }
-    {
-        self.ports.len()
-    }
-
-    /// Returns a local port.
-    pub(crate) fn port(&self, i: usize) -> LocalPort
-        requires { i < length self.now.ports }
-        ensures { result ≡ port_or self.now.ports i }
-    {
-        self.ports[i]
-    }
-
-    /// Returns the top of the lines of the bus.
-    pub(crate) fn bus_top(&self) -> u16
-        ensures { result ≤ 1000 }
-    {
-        bar_top(self.bars.len()) + SPACE
-    }
-
-    /// Returns the top of a local port.
-    pub(crate) fn port_top(&self, i: usize) -> u16
-        requires { i ≤ 26 }
-    {
-        self.bus_top() + LINE * BUS_LINES + SPACE + PORT * i as u16
-    }
-
-    /// Returns the height of a strip.
-    pub(crate) fn height(&self) -> u16 {
-        self.port_top(self.ports.len())
+        self.ports.as_slice()
     }
 
     /// Records the changes of the lines of arbitration in a cell.
@@ -156,18 +107,10 @@ impl Bar {
 }
 
 /// Records the changes of bars in a cell.
-fn record_bars(bars: &mut [Bar], window: Window, changes: &[Change])
+pub(crate) fn record_bars(bars: &mut [Bar], window: Window, changes: &[Change])
     ensures { bars.new ≡ map (bar_past window changes.now) bars.old }
 {
     for bar in bars.iter_mut() {
         *bar = bar.past(window, changes);
     }
-}
-
-/// Returns the top of a bar.
-pub(crate) fn bar_top(i: usize) -> u16
-    requires { i ≤ 26 }
-    ensures { result ≤ 670 }
-{
-    TOP + LINE * i as u16
 }

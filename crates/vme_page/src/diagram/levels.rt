@@ -13,10 +13,8 @@ pub(crate) struct Levels {
     pub(crate) address_strobe: Value,
     /// AM5 to AM0.
     pub(crate) address_modifier: Value,
-    /// A31 to A02.
+    /// A31 to A01.
     pub(crate) address_lines: Value,
-    /// A01.
-    pub(crate) first_address_line: Value,
     /// LWORD*.
     pub(crate) long_word: Value,
     /// WRITE*.
@@ -44,13 +42,12 @@ impl Levels {
             address_strobe: Value::High,
             address_modifier: Value::Released,
             address_lines: Value::Released,
-            first_address_line: Value::Free,
             long_word: Value::Free,
             write_line: Value::Free,
             first_strobe: Value::High,
             second_strobe: Value::High,
-            data_lines: Value::Released,
-            upper_data_lines: Value::Released,
+            data_lines: Value::no_lanes(),
+            upper_data_lines: Value::no_lanes(),
             acknowledge: Value::High,
             bus_error: Value::High,
         }
@@ -78,12 +75,6 @@ impl Levels {
                 window,
                 Variable::AddressLines.code(),
                 self.address_lines,
-                changes,
-            ),
-            first_address_line: value_past(
-                window,
-                Variable::FirstAddressLine.code(),
-                self.first_address_line,
                 changes,
             ),
             long_word: value_past(window, Variable::LongWord.code(), self.long_word, changes),

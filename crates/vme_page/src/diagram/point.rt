@@ -1,12 +1,10 @@
 //! The values of a variable in a cell.
-ghost use Rattle.std.specs.Prelude.{◌≡◌, ◌<◌, ◌-◌, ◌∷◌, ◌++◌, List, length, flat_map, IfOk, OnOk};
-ghost use Rattle.vme_trace.specs.declared.dump.change.Change.{Change};
-ghost use Rattle.vme_trace.specs.Shown.{is_letter, is_code, value_over};
-ghost use Rattle.vme_page.specs.Points.{is_in, is_due, point_in, line_points, value_past, first_value, number_of};
+ghost use Rattle.std.specs.Prelude.{◌≡◌, ◌<◌, ◌++◌, length, flat_map, IfOk, OnOk};
+ghost use Rattle.vme_page.specs.Points.{is_in, point_in, line_points, value_past, first_value, number_of};
 
 use crate::diagram::window::Window;
 use std::alloc::AllocError;
-use vme_trace::{Change, Code, Value};
+use vme_trace::{Change, Code, Value, is_code, value_over};
 
 /// The width of a cell.
 pub(crate) const WIDTH: u8 = 104;
@@ -25,24 +23,6 @@ fn is_in(window: Window, code: Code, change: &Change) -> bool
     ensures { result ≡ is_in window code change.now }
 {
     is_code(code, change.code) && window.shows(change.edge)
-}
-
-/// Returns whether a code is that of a variable.
-fn is_code(variable: Code, code: Code) -> bool
-    ensures { result ≡ is_code variable code }
-{
-    is_letter(variable.second, code.second) && code.first == variable.first
-}
-
-/// Returns whether a second letter is that of a variable.
-fn is_letter(variable: Option<u8>, found: Option<u8>) -> bool
-    ensures { result ≡ is_letter variable found }
-{
-    match (variable, found) {
-        (None, None) => true,
-        (Some(letter), Some(found)) => found == letter,
-        _ => false,
-    }
 }
 
 /// Replaces the points by those of a variable that has a value at the begin of a cell.
@@ -96,53 +76,17 @@ fn push_point(
     Ok(())
 }
 
-/// The last value of a variable so far, and the edge from which it has it.
-#[derive(Clone, Copy)]
-struct Latest {
-    /// The edge.
-    edge: u8,
-    /// The value.
-    value: Value,
-}
-
-impl Latest {
-    /// Returns the last value after one more change, if that is before edge `end`.
-    fn after(self, code: Code, end: u8, change: &Change) -> Latest
-        ensures { (later : List Change) →
-            value_over code (change.now ∷ later) self.edge (end - self.edge) self.value
-            ≡ value_over code later result.edge (end - result.edge) result.value }
-    {
-        if is_due(code, self.edge, end, change) {
-            return Latest {
-                edge: change.edge,
-                value: change.value,
-            };
-        }
-        self
-    }
-}
-
-/// Returns whether a change is one of a variable from an edge on, and before edge `end`.
-fn is_due(code: Code, edge: u8, end: u8, change: &Change) -> bool
-    ensures { result ≡ is_due code edge end change.now }
-{
-    is_code(code, change.code) && edge <= change.edge && change.edge < end
-}
-
-/// Returns the value of a variable after a cell, by its value before: that of the last of the changes
-/// at the last edge.
+/// Returns the value of a variable after a cell, by its value before.
 pub(crate) fn value_past(window: Window, code: Code, before: Value, changes: &[Change]) -> Value
     ensures { result ≡ value_past window code changes.now before }
 {
-    let mut latest = Latest {
-        edge: window.first_edge(),
-        value: before,
-    };
-    let end = window.end_edge();
-    for change in changes {
-        latest = latest.after(code, end, change);
-    }
-    latest.value
+    value_over(
+        code,
+        changes,
+        window.first_edge(),
+        window.end_edge(),
+        before,
+    )
 }
 
 /// Returns the first value that a variable changes to in a cell, if it changes.
@@ -159,6 +103,11 @@ pub(crate) fn first_value(
         Some(point) => Ok(Some(point.value)),
         None => Ok(None),
     }
+}
+
+/// Returns whether a variable changes in a cell.
+pub(crate) fn changes_in(window: Window, code: Code, changes: &[Change]) -> bool {
+    changes.iter().any(|change| is_in(window, code, change))
 }
 
 /// Returns the place at which the value of a point ends.

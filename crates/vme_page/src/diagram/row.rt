@@ -14,7 +14,7 @@ use vme_trace::{Change, Code, Value};
 /// The height of a bar.
 const BAR_HEIGHT: u16 = 14;
 /// The least width of a solid bar that has its name.
-const NAMED_WIDTH: u8 = 35;
+const NAMED_WIDTH: u8 = 40;
 
 /// How a line is drawn.
 #[derive(Clone, Copy, Debug, PartialEq, Eq)]
@@ -183,7 +183,7 @@ pub(crate) fn print_number(text: &mut Vec<u8>, number: u32) -> Result<(), AllocE
 /// Appends a part of data lanes, or dots if nothing drives them.
 fn print_data(text: &mut Vec<u8>, value: Value, span: Span, y: u16) -> Result<(), AllocError> {
     match value {
-        Value::Lanes(lanes) => print_lanes(text, &lanes, span, y),
+        Value::Lanes(lanes) if is_driven(&lanes) => print_lanes(text, &lanes, span, y),
         _ => print_dots(text, span.from, span.to, y),
     }
 }
@@ -196,9 +196,14 @@ fn print_upper_data(
     y: u16,
 ) -> Result<(), AllocError> {
     match value {
-        Value::Lanes(lanes) => print_lanes(text, &lanes, span, y),
+        Value::Lanes(lanes) if is_driven(&lanes) => print_lanes(text, &lanes, span, y),
         _ => Ok(()),
     }
+}
+
+/// Returns whether something drives a lane.
+fn is_driven(lanes: &[Option<u8>]) -> bool {
+    lanes.iter().any(|lane| lane.is_some())
 }
 
 /// Appends a part of data lanes.

@@ -6,7 +6,7 @@ use vme_trace::edge::{BEGIN, EDGES, FIRST, RELEASE, SECOND};
 
 /// The places of the edges of a handshake. They keep the order of the edges; the distances mean
 /// nothing.
-const HANDSHAKE: [u8; 10] = [4, 10, 20, 30, 40, 60, 72, 84, 90, 96];
+const HANDSHAKE: [u8; 10] = [4, 10, 18, 24, 34, 60, 72, 84, 92, 97];
 
 /// The places of the edges of arbitration. BRn* rises where BBSY* falls.
 const ARBITRATION: [u8; 4] = [12, 30, 48, 48];

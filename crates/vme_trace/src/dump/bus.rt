@@ -1,7 +1,7 @@
 //! The lines of the bus in the handshakes of an event.
 ghost use Rattle.std.specs.Prelude.{◌≡◌, ◌<◌, ◌++◌, OnOk};
 ghost use Rattle.vme_trace.specs.Variables.{board_of};
-ghost use Rattle.vme_trace.specs.Bus.{is_wide, drive_edge, upper_number, address_strobe_changes, address_changes, level_changes, data_strobe_changes, data_changes, answer_changes, handshake_changes, some_handshake_changes, address_level_changes, byte_on, lower_lanes, upper_lanes};
+ghost use Rattle.vme_trace.specs.Bus.{is_wide, address_number, drive_edge, upper_number, address_strobe_changes, address_changes, level_changes, data_strobe_changes, data_changes, answer_changes, handshake_changes, some_handshake_changes, address_level_changes, byte_on, lower_lanes, upper_lanes};
 
 use crate::dump::change::{Change, Value, push_if};
 use crate::dump::edge::{
@@ -70,7 +70,7 @@ fn push_address_strobe(changes: &mut Vec<Change>, shake: &Handshake) -> Result<(
     )
 }
 
-/// A31 to A02.
+/// A31 to A01.
 #[tactic(auto, unfolding(crate::specs::Bus::address_changes))]
 fn push_address(changes: &mut Vec<Change>, shake: &Handshake) -> Result<(), AllocError>
     ensures { OnOk result (changes.new.items ≡ changes.old.items ++ address_changes shake.now) }
@@ -80,11 +80,11 @@ fn push_address(changes: &mut Vec<Change>, shake: &Handshake) -> Result<(), Allo
     let upper = upper_number(&shake.lines);
     let address = Value::Number {
         width: 32,
-        number: shake.lines.addr(),
+        number: address_number(&shake.lines),
     };
     let data = Value::Number {
         width: 32,
-        number: upper - upper % 4,
+        number: upper - upper % 2,
     };
     push_if(changes, shake.opens, BEGIN, code, address)?;
     push_if(changes, shake.clears, SECOND, code, Value::Released)?;
@@ -105,7 +105,7 @@ fn push_address(changes: &mut Vec<Change>, shake: &Handshake) -> Result<(), Allo
     )
 }
 
-/// A01, LWORD* and WRITE*.
+/// LWORD* and WRITE*.
 #[tactic(auto, unfolding(crate::specs::Bus::level_changes))]
 fn push_levels(changes: &mut Vec<Change>, shake: &Handshake) -> Result<(), AllocError>
     ensures { OnOk result (changes.new.items ≡ changes.old.items ++ level_changes shake.now) }
@@ -113,13 +113,6 @@ fn push_levels(changes: &mut Vec<Change>, shake: &Handshake) -> Result<(), Alloc
     let strobes = shake.lines.strobes();
     let upper = upper_number(&shake.lines);
     let write = Variable::WriteLine.code();
-    push_address_level(
-        changes,
-        shake,
-        Variable::FirstAddressLine,
-        strobes.a01,
-        upper / 2 % 2 == 1,
-    )?;
     push_address_level(
         changes,
         shake,
@@ -228,7 +221,7 @@ fn push_data(changes: &mut Vec<Change>, shake: &Handshake) -> Result<(), AllocEr
         shake.carries,
         shake.edge(DATA_RELEASED),
         lower,
-        Value::Released,
+        Value::no_lanes(),
     )?;
     push_if(
         changes,
@@ -242,7 +235,7 @@ fn push_data(changes: &mut Vec<Change>, shake: &Handshake) -> Result<(), AllocEr
         wide,
         shake.edge(DATA_RELEASED),
         upper,
-        Value::Released,
+        Value::no_lanes(),
     )
 }
 
@@ -275,6 +268,17 @@ fn drive_edge(shake: &Handshake) -> u8
         shake.edge(BOARD_DRIVES)
     } else {
         shake.edge(MASTER_DRIVES)
+    }
+}
+
+/// A31 to A01 as a number, whose lowest bit is 0.
+fn address_number(signals: &Signals) -> u32
+    ensures { result ≡ address_number signals.now }
+{
+    if signals.strobes().a01 {
+        signals.addr() + 2
+    } else {
+        signals.addr()
     }
 }
 

@@ -1,6 +1,6 @@
 //! Changes of variables.
 ghost use Rattle.std.specs.Prelude.{◌≡◌, ◌++◌, OnOk};
-ghost use Rattle.vme_trace.specs.Changes.{level_of, change_if};
+ghost use Rattle.vme_trace.specs.Changes.{level_of, no_lanes, change_if};
 
 use std::alloc::AllocError;
 
@@ -28,6 +28,8 @@ pub enum Value {
     Number { width: u8, number: u32 },
     /// Four data lanes, the most significant first.
     Lanes([Option<u8>; 4]),
+    /// BG3IN* to BG0IN*, as bits.
+    Grants(u8),
 }
 
 /// A change of a variable at an edge of an event.
@@ -47,6 +49,13 @@ impl Value {
         ensures { result ≡ level_of is_high }
     {
         if is_high { Value::High } else { Value::Low }
+    }
+
+    /// Returns the lanes if nothing drives them.
+    pub fn no_lanes() -> Value
+        ensures { result ≡ no_lanes }
+    {
+        Value::Lanes([None, None, None, None])
     }
 }
 

@@ -1,24 +1,30 @@
-//! The header: the variables, and their values before the first event.
+//! The header: the variables, and their values before the first event that is shown.
 ghost use Rattle.std.specs.Prelude.{◌≡◌, ◌<◌, ◌++◌, OnOk, flat_map, length};
 ghost use Rattle.std.specs.List.{range_with_len};
 ghost use Rattle.vme_trace.specs.Variables.{board_of};
-ghost use Rattle.vme_trace.specs.Headers.{start_text, arbitration_text, address_text, data_text, bus_scope_text, first_arbitration_text, first_address_text, first_data_text, first_bus_text, middle_text, master_names, port_names, scope_name, scope_text, declaration, variable_code, variable_name, variable_text, first_text, first_slot_text, first_port_text, slot_scope, header_text};
+ghost use Rattle.vme_trace.specs.Headers.{start_text, arbitration_text, address_text, strobe_text, data_text, upper_data_text, bus_scope_text, middle_text, master_names, grant_names, port_names, port_data_names, scope_name, scope_text, declaration, part, slot_part, variable_code, variable_name, variable_text, slot_scope, header_text};
 
 use crate::dump::print::print_code;
+use crate::dump::values::{Shown, print_values};
 use crate::dump::variable::Variable;
 use std::alloc::AllocError;
 use vme_grammar::print_number;
 use vme_script::Config;
 
-/// Appends the header of a configuration: the variables, and their values before the first event.
+/// Appends the header of a configuration: the variables, and their values before the first event that
+/// is shown.
 #[tactic(auto, unfolding(crate::specs::Headers::header_text))]
-pub fn print_header(text: &mut Vec<u8>, config: &Config) -> Result<(), AllocError>
-    ensures { OnOk result (text.new.items ≡ text.old.items ++ header_text config.now) }
+pub(crate) fn print_header(
+    text: &mut Vec<u8>,
+    config: &Config,
+    values: &[Shown],
+) -> Result<(), AllocError>
+    ensures { OnOk result (text.new.items ≡ text.old.items ++ header_text config.now values.now) }
 {
     print_bus_scope(text)?;
     print_scopes(text, config)?;
-    print_first_bus(text)?;
-    print_first_slots(text, config)?;
+    print_middle(text)?;
+    print_values(text, values)?;
     text.extend_from_slice(b"$end\n")
 }
 
@@ -30,19 +36,10 @@ fn print_bus_scope(text: &mut Vec<u8>) -> Result<(), AllocError>
     print_start(text)?;
     print_arbitration(text)?;
     print_address(text)?;
+    print_strobes(text)?;
     print_data(text)?;
+    print_upper_data(text)?;
     text.extend_from_slice(b"$upscope $end\n")
-}
-
-/// Appends the values of the variables of the bus before the first event.
-#[tactic(auto, unfolding(crate::specs::Headers::first_bus_text))]
-fn print_first_bus(text: &mut Vec<u8>) -> Result<(), AllocError>
-    ensures { OnOk result (text.new.items ≡ text.old.items ++ first_bus_text) }
-{
-    print_middle(text)?;
-    print_first_arbitration(text)?;
-    print_first_address(text)?;
-    print_first_data(text)
 }
 
 /// Appends the scopes of the slots.
@@ -64,7 +61,9 @@ fn print_scope(text: &mut Vec<u8>, board: usize, slot: u16) -> Result<(), AllocE
 {
     print_scope_name(text, slot)?;
     print_master_names(text, board, slot)?;
+    print_grant_names(text, board, slot)?;
     print_port_names(text, board, slot)?;
+    print_port_data_names(text, board, slot)?;
     text.extend_from_slice(b"$upscope $end\n")
 }
 
@@ -78,55 +77,57 @@ fn print_scope_name(text: &mut Vec<u8>, slot: u16) -> Result<(), AllocError>
     text.extend_from_slice(b" $end\n")
 }
 
-/// Appends the line, the request and grant lines of a slot, BBSY* as it drives it, and the select.
+/// Appends the line and the request line of a slot, BBSY* as it drives it, and the select.
 #[tactic(auto, unfolding(crate::specs::Headers::master_names))]
 fn print_master_names(text: &mut Vec<u8>, board: usize, slot: u16) -> Result<(), AllocError>
     requires { board < 26 }
     ensures { OnOk result (text.new.items ≡ text.old.items ++ master_names board slot) }
 {
-    print_variable(
-        text,
-        b"integer 32",
-        Variable::CurrentLine(board),
-        slot,
-        b"line",
-    )?;
+    let line = Variable::CurrentLine(board);
+    print_variable(text, b"integer 32", line, slot, b"line")?;
     print_variable(text, b"wire 1", Variable::RequestLine(board), slot, b"br_n")?;
-    print_variable(
-        text,
-        b"wire 4",
-        Variable::GrantLines(board),
-        slot,
-        b"bgin_n [3:0]",
-    )?;
     print_variable(text, b"wire 1", Variable::BusyLine(board), slot, b"bbsy_n")?;
     print_variable(text, b"wire 1", Variable::Selected(board), slot, b"sel")
 }
 
-/// Appends the variables of the local port of a board.
+/// Appends BG3IN* to BG0IN* of a slot.
+#[tactic(auto, unfolding(crate::specs::Headers::grant_names))]
+fn print_grant_names(text: &mut Vec<u8>, board: usize, slot: u16) -> Result<(), AllocError>
+    requires { board < 26 }
+    ensures { OnOk result (text.new.items ≡ text.old.items ++ grant_names board slot) }
+{
+    let lines = Variable::GrantLines(board);
+    print_slot_part(text, b"wire 1", lines, 3, slot, b"bg3in_n")?;
+    print_slot_part(text, b"wire 1", lines, 2, slot, b"bg2in_n")?;
+    print_slot_part(text, b"wire 1", lines, 1, slot, b"bg1in_n")?;
+    print_slot_part(text, b"wire 1", lines, 0, slot, b"bg0in_n")
+}
+
+/// Appends the variables of the local port of a board but the data.
 #[tactic(auto, unfolding(crate::specs::Headers::port_names))]
 fn print_port_names(text: &mut Vec<u8>, board: usize, slot: u16) -> Result<(), AllocError>
     requires { board < 26 }
     ensures { OnOk result (text.new.items ≡ text.old.items ++ port_names board slot) }
 {
+    let offset = Variable::PortOffset(board);
     print_variable(text, b"wire 1", Variable::PortSelect(board), slot, b"lp_cs")?;
     print_variable(text, b"wire 1", Variable::PortWrite(board), slot, b"lp_we")?;
-    print_variable(
-        text,
-        b"wire 32",
-        Variable::PortOffset(board),
-        slot,
-        b"lp_a [31:0]",
-    )?;
-    print_variable(
-        text,
-        b"wire 32",
-        Variable::PortData(board),
-        slot,
-        b"lp_d [31:0]",
-    )?;
+    print_variable(text, b"wire 32", offset, slot, b"lp_a [31:0]")?;
     print_variable(text, b"wire 1", Variable::PortDone(board), slot, b"lp_ack")?;
     print_variable(text, b"wire 1", Variable::PortError(board), slot, b"lp_err")
+}
+
+/// Appends the data lanes of the local port of a board.
+#[tactic(auto, unfolding(crate::specs::Headers::port_data_names))]
+fn print_port_data_names(text: &mut Vec<u8>, board: usize, slot: u16) -> Result<(), AllocError>
+    requires { board < 26 }
+    ensures { OnOk result (text.new.items ≡ text.old.items ++ port_data_names board slot) }
+{
+    let lanes = Variable::PortData(board);
+    print_slot_part(text, b"wire 8", lanes, 0, slot, b"lp_d31_24 [7:0]")?;
+    print_slot_part(text, b"wire 8", lanes, 1, slot, b"lp_d23_16 [7:0]")?;
+    print_slot_part(text, b"wire 8", lanes, 2, slot, b"lp_d15_08 [7:0]")?;
+    print_slot_part(text, b"wire 8", lanes, 3, slot, b"lp_d07_00 [7:0]")
 }
 
 /// Appends a variable of a slot.
@@ -144,6 +145,46 @@ fn print_variable(
 {
     print_variable_code(text, kind, variable)?;
     print_variable_name(text, slot, name)
+}
+
+/// Appends one of the lines of a variable of a slot that have names of their own.
+#[tactic(auto, unfolding(crate::specs::Headers::slot_part))]
+fn print_slot_part(
+    text: &mut Vec<u8>,
+    kind: &[u8],
+    variable: Variable,
+    i: u8,
+    slot: u16,
+    name: &[u8],
+) -> Result<(), AllocError>
+    requires board { board_of variable < 26 }
+    requires few { i < 4 }
+    ensures { OnOk result
+        (text.new.items ≡ text.old.items ++ slot_part kind.now variable i slot name.now) }
+{
+    print_variable_code(text, kind, variable)?;
+    text.push(b'0' + i)?;
+    print_variable_name(text, slot, name)
+}
+
+/// Appends one of the lines of a variable of the bus that have names of their own.
+#[tactic(auto, unfolding(crate::specs::Headers::part))]
+fn print_part(
+    text: &mut Vec<u8>,
+    kind: &[u8],
+    variable: Variable,
+    i: u8,
+    name: &[u8],
+) -> Result<(), AllocError>
+    requires board { board_of variable < 26 }
+    requires few { i < 4 }
+    ensures { OnOk result (text.new.items ≡ text.old.items ++ part kind.now variable i name.now) }
+{
+    print_variable_code(text, kind, variable)?;
+    text.push(b'0' + i)?;
+    text.extend_from_slice(b" ")?;
+    text.extend_from_slice(name)?;
+    text.extend_from_slice(b" $end\n")
 }
 
 /// Appends a variable of the bus.
@@ -192,56 +233,6 @@ fn print_variable_name(text: &mut Vec<u8>, slot: u16, name: &[u8]) -> Result<(),
     text.extend_from_slice(b" $end\n")
 }
 
-/// Appends the values of the variables of the slots.
-fn print_first_slots(text: &mut Vec<u8>, config: &Config) -> Result<(), AllocError>
-    ensures { OnOk result (text.new.items ≡ text.old.items
-        ++ flat_map first_slot_text (range_with_len 0 (length config.now.boards))) }
-{
-    for board in 0..config.boards() {
-        print_first_slot(text, board)?;
-    }
-    Ok(())
-}
-
-/// Appends the values of the variables of a slot.
-#[tactic(auto, unfolding(crate::specs::Headers::first_slot_text))]
-fn print_first_slot(text: &mut Vec<u8>, board: usize) -> Result<(), AllocError>
-    requires { board < 26 }
-    ensures { OnOk result (text.new.items ≡ text.old.items ++ first_slot_text board) }
-{
-    print_first(text, b"bz ", Variable::CurrentLine(board))?;
-    print_first(text, b"1", Variable::RequestLine(board))?;
-    print_first(text, b"b1111 ", Variable::GrantLines(board))?;
-    print_first(text, b"1", Variable::BusyLine(board))?;
-    print_first(text, b"0", Variable::Selected(board))?;
-    print_first_port(text, board)
-}
-
-/// Appends the values of the variables of a local port.
-#[tactic(auto, unfolding(crate::specs::Headers::first_port_text))]
-fn print_first_port(text: &mut Vec<u8>, board: usize) -> Result<(), AllocError>
-    requires { board < 26 }
-    ensures { OnOk result (text.new.items ≡ text.old.items ++ first_port_text board) }
-{
-    print_first(text, b"0", Variable::PortSelect(board))?;
-    print_first(text, b"z", Variable::PortWrite(board))?;
-    print_first(text, b"bz ", Variable::PortOffset(board))?;
-    print_first(text, b"bz ", Variable::PortData(board))?;
-    print_first(text, b"0", Variable::PortDone(board))?;
-    print_first(text, b"0", Variable::PortError(board))
-}
-
-/// Appends the value of a variable.
-#[tactic(auto, unfolding(crate::specs::Headers::first_text))]
-fn print_first(text: &mut Vec<u8>, value: &[u8], variable: Variable) -> Result<(), AllocError>
-    requires { board_of variable < 26 }
-    ensures { OnOk result (text.new.items ≡ text.old.items ++ first_text value.now variable) }
-{
-    text.extend_from_slice(value)?;
-    print_code(text, variable.code())?;
-    text.extend_from_slice(b"\n")
-}
-
 /// The begin, up to the scope of the bus.
 #[tactic(auto, unfolding(crate::specs::Headers::start_text))]
 fn print_start(text: &mut Vec<u8>) -> Result<(), AllocError>
@@ -249,7 +240,7 @@ fn print_start(text: &mut Vec<u8>) -> Result<(), AllocError>
 {
     text.extend_from_slice(b"$version bendrika 1 $end\n")?;
     text.extend_from_slice(
-        b"$comment event n takes time 100 n to 100 n + 99, and edge k of it is at 100 n + 5 k $end\n",
+        b"$comment the n-th event that is shown takes time 100 n to 100 n + 99, and edge k of it is at 100 n + 5 k $end\n",
     )?;
     text.extend_from_slice(b"$timescale 10 ms $end\n")?;
     text.extend_from_slice(b"$scope module vme $end\n")?;
@@ -279,63 +270,42 @@ fn print_address(text: &mut Vec<u8>) -> Result<(), AllocError>
     print_declaration(text, b"wire 1", Variable::AddressStrobe, b"as_n")?;
     print_declaration(text, b"wire 6", Variable::AddressModifier, b"am [5:0]")?;
     print_declaration(text, b"wire 32", Variable::AddressLines, b"a [31:0]")?;
-    print_declaration(text, b"wire 1", Variable::FirstAddressLine, b"a01")?;
     print_declaration(text, b"wire 1", Variable::LongWord, b"lword_n")?;
     print_declaration(text, b"wire 1", Variable::WriteLine, b"write_n")
 }
 
-/// The data strobes, the data lines, DTACK* and BERR*.
-#[tactic(auto, unfolding(crate::specs::Headers::data_text))]
-fn print_data(text: &mut Vec<u8>) -> Result<(), AllocError>
-    ensures { OnOk result (text.new.items ≡ text.old.items ++ data_text) }
+/// The data strobes, DTACK* and BERR*.
+#[tactic(auto, unfolding(crate::specs::Headers::strobe_text))]
+fn print_strobes(text: &mut Vec<u8>) -> Result<(), AllocError>
+    ensures { OnOk result (text.new.items ≡ text.old.items ++ strobe_text) }
 {
     print_declaration(text, b"wire 1", Variable::FirstStrobe, b"ds1_n")?;
     print_declaration(text, b"wire 1", Variable::SecondStrobe, b"ds0_n")?;
-    print_declaration(text, b"wire 32", Variable::DataLines, b"d [31:0]")?;
-    print_declaration(text, b"wire 32", Variable::UpperDataLines, b"dh [63:32]")?;
     print_declaration(text, b"wire 1", Variable::Acknowledge, b"dtack_n")?;
     print_declaration(text, b"wire 1", Variable::BusError, b"berr_n")
 }
 
-/// The values of the event and of the lines of arbitration.
-#[tactic(auto, unfolding(crate::specs::Headers::first_arbitration_text))]
-fn print_first_arbitration(text: &mut Vec<u8>) -> Result<(), AllocError>
-    ensures { OnOk result (text.new.items ≡ text.old.items ++ first_arbitration_text) }
+/// The data lanes D31 to D00.
+#[tactic(auto, unfolding(crate::specs::Headers::data_text))]
+fn print_data(text: &mut Vec<u8>) -> Result<(), AllocError>
+    ensures { OnOk result (text.new.items ≡ text.old.items ++ data_text) }
 {
-    print_first(text, b"b0 ", Variable::EventNumber)?;
-    print_first(text, b"bz ", Variable::EventSlot)?;
-    print_first(text, b"bz ", Variable::Holder)?;
-    print_first(text, b"1", Variable::BusBusy)?;
-    print_first(text, b"1", Variable::BusRequest(3))?;
-    print_first(text, b"1", Variable::BusRequest(2))?;
-    print_first(text, b"1", Variable::BusRequest(1))?;
-    print_first(text, b"1", Variable::BusRequest(0))
+    print_part(text, b"wire 8", Variable::DataLines, 0, b"d31_24 [7:0]")?;
+    print_part(text, b"wire 8", Variable::DataLines, 1, b"d23_16 [7:0]")?;
+    print_part(text, b"wire 8", Variable::DataLines, 2, b"d15_08 [7:0]")?;
+    print_part(text, b"wire 8", Variable::DataLines, 3, b"d07_00 [7:0]")
 }
 
-/// The values of the lines of addressing.
-#[tactic(auto, unfolding(crate::specs::Headers::first_address_text))]
-fn print_first_address(text: &mut Vec<u8>) -> Result<(), AllocError>
-    ensures { OnOk result (text.new.items ≡ text.old.items ++ first_address_text) }
+/// The data lanes D63 to D32.
+#[tactic(auto, unfolding(crate::specs::Headers::upper_data_text))]
+fn print_upper_data(text: &mut Vec<u8>) -> Result<(), AllocError>
+    ensures { OnOk result (text.new.items ≡ text.old.items ++ upper_data_text) }
 {
-    print_first(text, b"1", Variable::AddressStrobe)?;
-    print_first(text, b"bz ", Variable::AddressModifier)?;
-    print_first(text, b"bz ", Variable::AddressLines)?;
-    print_first(text, b"z", Variable::FirstAddressLine)?;
-    print_first(text, b"z", Variable::LongWord)?;
-    print_first(text, b"z", Variable::WriteLine)
-}
-
-/// The values of the strobes, the data lines and the replies.
-#[tactic(auto, unfolding(crate::specs::Headers::first_data_text))]
-fn print_first_data(text: &mut Vec<u8>) -> Result<(), AllocError>
-    ensures { OnOk result (text.new.items ≡ text.old.items ++ first_data_text) }
-{
-    print_first(text, b"1", Variable::FirstStrobe)?;
-    print_first(text, b"1", Variable::SecondStrobe)?;
-    print_first(text, b"bz ", Variable::DataLines)?;
-    print_first(text, b"bz ", Variable::UpperDataLines)?;
-    print_first(text, b"1", Variable::Acknowledge)?;
-    print_first(text, b"1", Variable::BusError)
+    let lanes = Variable::UpperDataLines;
+    print_part(text, b"wire 8", lanes, 0, b"dh63_56 [7:0]")?;
+    print_part(text, b"wire 8", lanes, 1, b"dh55_48 [7:0]")?;
+    print_part(text, b"wire 8", lanes, 2, b"dh47_40 [7:0]")?;
+    print_part(text, b"wire 8", lanes, 3, b"dh39_32 [7:0]")
 }
 
 /// From the scopes to the values.

@@ -191,10 +191,10 @@ fn push_bytes(
         access.bytes.is_some(),
         released,
         code,
-        Value::Released,
+        Value::no_lanes(),
     )?;
     push_lanes(changes, access.new, SECOND, code)?;
-    push_if(changes, access.new.is_some(), end, code, Value::Released)
+    push_if(changes, access.new.is_some(), end, code, Value::no_lanes())
 }
 
 /// Appends the change of lanes, if some carry bytes.

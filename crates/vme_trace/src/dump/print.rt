@@ -1,7 +1,7 @@
 //! The text of events.
-ghost use Rattle.std.specs.Prelude.{◌≡◌, ◌+◌, ◌/◌, ◌%◌, ◌^◌, ◌++◌, ◌==◌, flat_map, codes, OnOk};
-ghost use Rattle.std.specs.List.{list_any};
-ghost use Rattle.vme_trace.specs.Changes.{binary, lane_digits, code_text, value_text, text_at, time_text, edge_text, event_text, end_text};
+ghost use Rattle.std.specs.Prelude.{◌≡◌, ◌<◌, ◌+◌, ◌/◌, ◌%◌, ◌^◌, ◌∷◌, [], ◌++◌, ◌==◌, flat_map, slice_get, codes, OnOk};
+ghost use Rattle.std.specs.List.{list_any, range_with_len};
+ghost use Rattle.vme_trace.specs.Changes.{binary, lane_found, lane_digits, line_text, lane_text, grant_text, code_text, value_text, text_at, time_text, edge_text, event_text, end_text};
 
 use crate::dump::change::{Change, Code, Value};
 use crate::dump::edge::EDGES;
@@ -10,7 +10,7 @@ use vme_grammar::print_number;
 
 /// Appends the text of event `n`, whose changes these are.
 #[tactic(auto, unfolding(crate::specs::Changes::event_text))]
-pub fn print_event(text: &mut Vec<u8>, n: u32, changes: &[Change]) -> Result<(), AllocError>
+pub(crate) fn print_event(text: &mut Vec<u8>, n: u32, changes: &[Change]) -> Result<(), AllocError>
     ensures { OnOk result (text.new.items ≡ text.old.items ++ event_text n changes.now) }
 {
     for k in 0..EDGES {
@@ -20,7 +20,7 @@ pub fn print_event(text: &mut Vec<u8>, n: u32, changes: &[Change]) -> Result<(),
 }
 
 /// Appends the text of the end, after `n` events.
-pub fn print_end(text: &mut Vec<u8>, n: u32) -> Result<(), AllocError>
+pub(crate) fn print_end(text: &mut Vec<u8>, n: u32) -> Result<(), AllocError>
     ensures { OnOk result (text.new.items ≡ text.old.items ++ end_text n) }
 {
     print_time(text, 100 * u64::from(n) + 100)
@@ -61,33 +61,41 @@ fn print_at(text: &mut Vec<u8>, change: &Change, k: u8) -> Result<(), AllocError
     if change.edge != k {
         return Ok(());
     }
-    print_value(text, change.value)?;
-    print_code(text, change.code)?;
-    text.extend_from_slice(b"\n")
+    print_value(text, change.code, change.value)
 }
 
-/// Appends a value, as it stands before the code of its variable.
-fn print_value(text: &mut Vec<u8>, value: Value) -> Result<(), AllocError>
-    ensures { OnOk result (text.new.items ≡ text.old.items ++ value_text value) }
+/// Appends the lines of a value of the variable with this code.
+pub(crate) fn print_value(text: &mut Vec<u8>, code: Code, value: Value) -> Result<(), AllocError>
+    ensures { OnOk result (text.new.items ≡ text.old.items ++ value_text code value) }
 {
     match value {
-        Value::Low => text.extend_from_slice(b"0"),
-        Value::High => text.extend_from_slice(b"1"),
-        Value::Free => text.extend_from_slice(b"z"),
-        Value::Released => text.extend_from_slice(b"bz "),
-        Value::Number { width, number } => print_vector(text, width, number),
-        Value::Lanes(lanes) => print_lanes(text, &lanes),
+        Value::Low => print_line(text, b"0", code),
+        Value::High => print_line(text, b"1", code),
+        Value::Free => print_line(text, b"z", code),
+        Value::Released => print_line(text, b"bz ", code),
+        Value::Number { width, number } => print_vector(text, width, number, code),
+        Value::Lanes(lanes) => print_lanes(text, code, &lanes),
+        Value::Grants(bits) => print_grants(text, code, bits),
     }
 }
 
-/// Appends a number as the value of a vector.
-fn print_vector(text: &mut Vec<u8>, width: u8, number: u32) -> Result<(), AllocError>
-    ensures { OnOk result
-        (text.new.items ≡ text.old.items ++ (codes "b" ++ (binary width number ++ codes " "))) }
+/// Appends the line of a value with these digits.
+fn print_line(text: &mut Vec<u8>, digits: &[u8], code: Code) -> Result<(), AllocError>
+    ensures { OnOk result (text.new.items ≡ text.old.items ++ line_text digits.now code) }
+{
+    text.extend_from_slice(digits)?;
+    print_code(text, code)?;
+    text.extend_from_slice(b"\n")
+}
+
+/// Appends the line of a number as the value of a vector.
+fn print_vector(text: &mut Vec<u8>, width: u8, number: u32, code: Code) -> Result<(), AllocError>
+    ensures { OnOk result (text.new.items ≡ text.old.items
+        ++ line_text (codes "b" ++ (binary width number ++ codes " ")) code) }
 {
     text.extend_from_slice(b"b")?;
     print_binary(text, width, number)?;
-    text.extend_from_slice(b" ")
+    print_line(text, b" ", code)
 }
 
 /// Appends so many binary digits of a number.
@@ -110,34 +118,76 @@ fn digit(number: u32, place: u8) -> u8
     b'0' + ((number >> place) % 2) as u8
 }
 
-/// Appends lanes as the value of a vector.
-fn print_lanes(text: &mut Vec<u8>, lanes: &[Option<u8>]) -> Result<(), AllocError>
-    ensures { OnOk result
-        (text.new.items ≡ text.old.items ++ (codes "b" ++ (flat_map lane_digits lanes.now ++ codes " "))) }
+/// Appends the lines of four data lanes.
+fn print_lanes(text: &mut Vec<u8>, code: Code, lanes: &[Option<u8>]) -> Result<(), AllocError>
+    ensures { OnOk result (text.new.items
+        ≡ text.old.items ++ flat_map (lane_text code lanes.now) (range_with_len 0 4)) }
 {
-    text.extend_from_slice(b"b")?;
-    print_lane_digits(text, lanes)?;
-    text.extend_from_slice(b" ")
-}
-
-/// Appends the digits of lanes.
-fn print_lane_digits(text: &mut Vec<u8>, lanes: &[Option<u8>]) -> Result<(), AllocError>
-    ensures { OnOk result (text.new.items ≡ text.old.items ++ flat_map lane_digits lanes.now) }
-{
-    for lane in lanes {
-        text.extend_from_slice(&lane_digits(*lane))?;
+    for i in 0..4 {
+        print_lane(text, code, lanes, i)?;
     }
     Ok(())
 }
 
-/// Returns the digits of a lane.
-fn lane_digits(lane: Option<u8>) -> [u8; 8]
-    ensures { result ≡ lane_digits lane }
+/// Appends the line of a data lane.
+fn print_lane(text: &mut Vec<u8>, code: Code, lanes: &[Option<u8>], i: u8) -> Result<(), AllocError>
+    requires { i < 4 }
+    ensures { OnOk result (text.new.items ≡ text.old.items ++ lane_text code lanes.now i) }
+{
+    text.extend_from_slice(b"b")?;
+    print_lane_digits(text, lane_in(lanes, i))?;
+    text.extend_from_slice(b" ")?;
+    print_part_end(text, code, i)
+}
+
+/// Returns the lane at an index; none carries nothing.
+fn lane_in(lanes: &[Option<u8>], i: u8) -> Option<u8>
+    ensures { result ≡ lane_found (slice_get lanes.now i) }
+{
+    match lanes.get(usize::from(i)) {
+        Some(lane) => *lane,
+        None => None,
+    }
+}
+
+/// Appends the digits of a lane.
+fn print_lane_digits(text: &mut Vec<u8>, lane: Option<u8>) -> Result<(), AllocError>
+    ensures { OnOk result (text.new.items ≡ text.old.items ++ lane_digits lane) }
 {
     match lane {
-        Some(byte) => byte_digits(byte),
-        None => *b"zzzzzzzz",
+        Some(byte) => text.extend_from_slice(&byte_digits(byte)),
+        None => text.extend_from_slice(b"z"),
     }
+}
+
+/// Appends the lines of BG0IN* to BG3IN*.
+fn print_grants(text: &mut Vec<u8>, code: Code, bits: u8) -> Result<(), AllocError>
+    ensures { OnOk result (text.new.items
+        ≡ text.old.items ++ flat_map (grant_text code bits) (range_with_len 0 4)) }
+{
+    for level in 0..4 {
+        print_grant(text, code, bits, level)?;
+    }
+    Ok(())
+}
+
+/// Appends the line of a grant line.
+fn print_grant(text: &mut Vec<u8>, code: Code, bits: u8, level: u8) -> Result<(), AllocError>
+    requires { level < 4 }
+    ensures { OnOk result (text.new.items ≡ text.old.items ++ grant_text code bits level) }
+{
+    text.push(digit(u32::from(bits), level))?;
+    print_part_end(text, code, level)
+}
+
+/// Appends the code of one of several lines with names of their own, and the end of its line.
+fn print_part_end(text: &mut Vec<u8>, code: Code, part: u8) -> Result<(), AllocError>
+    requires { part < 4 }
+    ensures { OnOk result
+        (text.new.items ≡ text.old.items ++ (code_text code ++ (48 + part) ∷ 10 ∷ [])) }
+{
+    print_code(text, code)?;
+    text.extend_from_slice(&[b'0' + part, b'\n'])
 }
 
 /// Returns the digits of a byte.

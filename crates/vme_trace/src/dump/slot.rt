@@ -83,14 +83,7 @@ fn push_chain(
     let code = Variable::GrantLines(board).code();
     let edge = grant_edge(&event.activity);
     let passes = passes_grant(event.grant, board);
-    let low = Value::Number {
-        width: 4,
-        number: grant_lines(event.grant),
-    };
-    let high = Value::Number {
-        width: 4,
-        number: 15,
-    };
+    let (low, high) = (Value::Grants(grant_lines(event.grant)), Value::Grants(15));
     push_if(changes, passes, edge, code, low)?;
     push_if(changes, passes, edge + GRANT_ENDS, code, high)
 }
@@ -242,7 +235,7 @@ fn passes_grant(grant: Option<Grant>, board: usize) -> bool
 }
 
 /// The levels of BG3IN* to BG0IN* in a grant.
-fn grant_lines(grant: Option<Grant>) -> u32
+fn grant_lines(grant: Option<Grant>) -> u8
     ensures { result ≡ grant_lines grant }
 {
     let Some(grant) = grant else {

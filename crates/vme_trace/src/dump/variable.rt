@@ -21,10 +21,8 @@ pub enum Variable {
     AddressStrobe,
     /// AM5 to AM0.
     AddressModifier,
-    /// A31 to A02.
+    /// A31 to A01.
     AddressLines,
-    /// A01.
-    FirstAddressLine,
     /// LWORD*.
     LongWord,
     /// WRITE*.
@@ -80,15 +78,14 @@ impl Variable {
             Variable::AddressStrobe => bus_code(b'I'),
             Variable::AddressModifier => bus_code(b'J'),
             Variable::AddressLines => bus_code(b'K'),
-            Variable::FirstAddressLine => bus_code(b'L'),
-            Variable::LongWord => bus_code(b'M'),
-            Variable::WriteLine => bus_code(b'N'),
-            Variable::FirstStrobe => bus_code(b'O'),
-            Variable::SecondStrobe => bus_code(b'P'),
-            Variable::DataLines => bus_code(b'Q'),
-            Variable::UpperDataLines => bus_code(b'R'),
-            Variable::Acknowledge => bus_code(b'S'),
-            Variable::BusError => bus_code(b'T'),
+            Variable::LongWord => bus_code(b'L'),
+            Variable::WriteLine => bus_code(b'M'),
+            Variable::FirstStrobe => bus_code(b'N'),
+            Variable::SecondStrobe => bus_code(b'O'),
+            Variable::DataLines => bus_code(b'P'),
+            Variable::UpperDataLines => bus_code(b'Q'),
+            Variable::Acknowledge => bus_code(b'R'),
+            Variable::BusError => bus_code(b'S'),
             Variable::CurrentLine(board) => slot_code(board, b'a'),
             Variable::RequestLine(board) => slot_code(board, b'b'),
             Variable::GrantLines(board) => slot_code(board, b'c'),

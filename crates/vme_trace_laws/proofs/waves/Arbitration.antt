@@ -54,15 +54,14 @@ no_line x below = record {
   strobe = later 73 (omega arith);
   modifier = later 74 (omega arith);
   address = later 75 (omega arith);
-  first = later 76 (omega arith);
-  long_word = later 77 (omega arith);
-  write = later 78 (omega arith);
-  strobe_1 = later 79 (omega arith);
-  strobe_0 = later 80 (omega arith);
-  lanes = later 81 (omega arith);
-  upper_lanes = later 82 (omega arith);
-  acknowledge = later 83 (omega arith);
-  error = later 84 (omega arith);
+  long_word = later 76 (omega arith);
+  write = later 77 (omega arith);
+  strobe_1 = later 78 (omega arith);
+  strobe_0 = later 79 (omega arith);
+  lanes = later 80 (omega arith);
+  upper_lanes = later 81 (omega arith);
+  acknowledge = later 82 (omega arith);
+  error = later 83 (omega arith);
 }
   where
     later : (y : ℕ) → 72 < y → is_code (bus_code x) (bus_code y) ≡ false

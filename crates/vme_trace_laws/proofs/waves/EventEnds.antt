@@ -5,7 +5,8 @@ use Rattle.std.proofs.lemmas.Option.{same_Some}
 use Rattle.vme_trace.specs.declared.observation.Observation.{Observation}
 use Rattle.vme_trace.specs.declared.dump.change.Code.{Code}
 use Rattle.vme_trace.specs.declared.dump.change.Value.{Value}
-use Rattle.vme_trace.specs.declared.dump.change.Value.TheVariants.{Low, High, Released, Lanes}
+use Rattle.vme_trace.specs.declared.dump.change.Value.TheVariants.{Low, High, Lanes}
+use Rattle.vme_trace.specs.Changes.{no_lanes}
 use Rattle.vme_trace.specs.declared.dump.handshake.Handshake.{Handshake}
 use Rattle.vme_trace.specs.Handshakes.{edge_of, first_handshake, second_handshake}
 use Rattle.vme_trace.specs.Bus.{lower_lanes, upper_lanes, handshake_changes}
@@ -31,11 +32,11 @@ same_found found t u first second = same_Some _ _ (sym first ∙ second)
 
 -- D31 to D00 are lines of a cycle
 data_line : IsCycleLine data_lines
-data_line = record { number = 81; is = refl; past = omega arith }
+data_line = record { number = 80; is = refl; past = omega arith }
 
 -- D63 to D32 are lines of a cycle
 upper_data_line : IsCycleLine upper_data_lines
-upper_data_line = record { number = 82; is = refl; past = omega arith }
+upper_data_line = record { number = 81; is = refl; past = omega arith }
 
 -- the last edge of an early handshake
 early_last : (late : Bool) → late ≡ false → (if late then 19 else 10) ≤ 10
@@ -56,7 +57,7 @@ module _ (boards n : ℕ) (o : Observation) where
       elim (cases_lt k 10) [
         | inl soon ↦
             let by : k ≤ 9 = omega (arith, soon) in
-            two_early data_lines boards n o two (Lanes (lower_lanes two.t.lines.lanes)) (Lanes (lower_lanes two.u.lines.lanes)) Released data_line
+            two_early data_lines boards n o two (Lanes (lower_lanes two.t.lines.lanes)) (Lanes (lower_lanes two.u.lines.lanes)) no_lanes data_line
             (data_pulsed two.t) (data_pulsed two.u) before k by
             ∙ data_stand two.t line strobe k before carries is is_strobe (sym (early_is boards n o two line (answer_control line is) k by) ∙ low)
             (sym (early_is boards n o two strobe (strobe_control strobe is_strobe) k by) ∙ strobe_low)
@@ -71,7 +72,7 @@ module _ (boards n : ℕ) (o : Observation) where
       → value_at data_lines (event_changes boards n o) before k ≡ Lanes (lower_lanes two.u.lines.lanes)
   late_data two line strobe k before carries is is_strobe within low strobe_low =
       let by : 9 ≤ k = omega (arith, late_first two.u.late k 0 two.late within.0) in
-      two_late data_lines boards n o two (Lanes (lower_lanes two.t.lines.lanes)) (Lanes (lower_lanes two.u.lines.lanes)) Released data_line
+      two_late data_lines boards n o two (Lanes (lower_lanes two.t.lines.lanes)) (Lanes (lower_lanes two.u.lines.lanes)) no_lanes data_line
       (data_pulsed two.t) (data_pulsed two.u) before k by
       ∙ data_stand two.u line strobe k (value_at data_lines (handshake_changes two.t) before 9) carries is is_strobe
       (sym (late_is boards n o two line (answer_control line is) k by) ∙ low)
@@ -129,12 +130,12 @@ module _ (boards n : ℕ) (o : Observation) where
   ends_high line c = ends_at_rest line High 19 (λ t. Low) c.own c.pulsed (omega arith)
 
   -- an event ends without data
-  pub ends_released : value_at data_lines (event_changes boards n o) Released 19 ≡ Released
-  ends_released = ends_at_rest data_lines Released 19 (λ t. Lanes (lower_lanes t.lines.lanes)) data_line data_pulsed (omega arith)
+  pub ends_released : value_at data_lines (event_changes boards n o) no_lanes 19 ≡ no_lanes
+  ends_released = ends_at_rest data_lines no_lanes 19 (λ t. Lanes (lower_lanes t.lines.lanes)) data_line data_pulsed (omega arith)
 
   -- and without data on D63 to D32
-  pub ends_upper_released : value_at upper_data_lines (event_changes boards n o) Released 19 ≡ Released
-  ends_upper_released = ends_at_rest upper_data_lines Released 19 (λ t. Lanes (upper_lanes t.lines.lanes)) upper_data_line upper_data_pulsed (omega arith)
+  pub ends_upper_released : value_at upper_data_lines (event_changes boards n o) no_lanes 19 ≡ no_lanes
+  ends_upper_released = ends_at_rest upper_data_lines no_lanes 19 (λ t. Lanes (upper_lanes t.lines.lanes)) upper_data_line upper_data_pulsed (omega arith)
 
   -- the last edge at which AS* rises
   rise_within : (late : Bool) → (if late then 16 else 7) ≤ 19

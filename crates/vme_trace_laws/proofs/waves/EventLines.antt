@@ -6,7 +6,8 @@ use Rattle.std.proofs.lemmas.Bool.{ne_eqb, le-leb}
 use Rattle.vme_trace.specs.declared.observation.Observation.{Observation}
 use Rattle.vme_trace.specs.declared.dump.change.Code.{Code}
 use Rattle.vme_trace.specs.declared.dump.change.Value.{Value}
-use Rattle.vme_trace.specs.declared.dump.change.Value.TheVariants.{Low, High, Released, Lanes}
+use Rattle.vme_trace.specs.declared.dump.change.Value.TheVariants.{Low, High, Lanes}
+use Rattle.vme_trace.specs.Changes.{no_lanes}
 use Rattle.vme_trace.specs.declared.dump.handshake.Handshake.{Handshake}
 use Rattle.vme_trace.specs.Variables.{bus_code}
 use Rattle.vme_trace.specs.Handshakes.{edge_of, first_handshake, second_handshake}
@@ -154,7 +155,7 @@ drive_order false late = edge_order late 0 7 (omega arith)
 drive_order true late = edge_order late 2 7 (omega arith)
 
 -- the data in a handshake
-pub data_pulsed : (t : Handshake) → IsPulsed data_lines t (Lanes (lower_lanes t.lines.lanes)) Released
+pub data_pulsed : (t : Handshake) → IsPulsed data_lines t (Lanes (lower_lanes t.lines.lanes)) no_lanes
 data_pulsed t = record {
   moves = t.carries;
   down = drive_edge t;
@@ -166,7 +167,7 @@ data_pulsed t = record {
 }
 
 -- the upper half of eight-byte data in a handshake
-pub upper_data_pulsed : (t : Handshake) → IsPulsed upper_data_lines t (Lanes (upper_lanes t.lines.lanes)) Released
+pub upper_data_pulsed : (t : Handshake) → IsPulsed upper_data_lines t (Lanes (upper_lanes t.lines.lanes)) no_lanes
 upper_data_pulsed t = record {
   moves = is_wide t;
   down = drive_edge t;

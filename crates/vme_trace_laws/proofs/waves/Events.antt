@@ -58,7 +58,6 @@ slot_no_line board letter = record {
   strobe = refl;
   modifier = refl;
   address = refl;
-  first = refl;
   long_word = refl;
   write = refl;
   strobe_1 = refl;

@@ -5,7 +5,7 @@ use Rattle.std.proofs.lemmas.Bool.Decides.{eqb_tells}
 use Rattle.vme_trace.specs.declared.dump.change.Code.{Code}
 use Rattle.vme_trace.specs.declared.dump.change.Change.{Change}
 use Rattle.vme_trace.specs.declared.dump.change.Value.{Value}
-use Rattle.vme_trace.specs.declared.dump.change.Value.TheVariants.{Low, High, Free, Released, Number, Lanes}
+use Rattle.vme_trace.specs.declared.dump.change.Value.TheVariants.{Low, High, Free, Released, Number, Lanes, Grants}
 use Rattle.vme_trace.specs.Shown.{value_after, value_at}
 
 -- whether a value is low
@@ -16,6 +16,7 @@ is_low Free = false
 is_low Released = false
 is_low (Number width number) = false
 is_low (Lanes lanes) = false
+is_low (Grants bits) = false
 
 -- no line is low and high
 pub not_both : High ≡ Low → ⊥

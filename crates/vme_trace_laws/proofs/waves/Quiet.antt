@@ -39,15 +39,14 @@ pub record IsNoLine (code : Code) : Type 0 where
   pub strobe : is_code code (bus_code 73) ≡ false
   pub modifier : is_code code (bus_code 74) ≡ false
   pub address : is_code code (bus_code 75) ≡ false
-  pub first : is_code code (bus_code 76) ≡ false
-  pub long_word : is_code code (bus_code 77) ≡ false
-  pub write : is_code code (bus_code 78) ≡ false
-  pub strobe_1 : is_code code (bus_code 79) ≡ false
-  pub strobe_0 : is_code code (bus_code 80) ≡ false
-  pub lanes : is_code code (bus_code 81) ≡ false
-  pub upper_lanes : is_code code (bus_code 82) ≡ false
-  pub acknowledge : is_code code (bus_code 83) ≡ false
-  pub error : is_code code (bus_code 84) ≡ false
+  pub long_word : is_code code (bus_code 76) ≡ false
+  pub write : is_code code (bus_code 77) ≡ false
+  pub strobe_1 : is_code code (bus_code 78) ≡ false
+  pub strobe_0 : is_code code (bus_code 79) ≡ false
+  pub lanes : is_code code (bus_code 80) ≡ false
+  pub upper_lanes : is_code code (bus_code 81) ≡ false
+  pub acknowledge : is_code code (bus_code 82) ≡ false
+  pub error : is_code code (bus_code 83) ≡ false
 
 -- a handshake leaves such a variable alone
 pub handshake_quiet : (code : Code) (t : Handshake) → IsNoLine code → IsQuiet code (handshake_changes t)
@@ -55,7 +54,7 @@ unfolding handshake_changes
 handshake_quiet code t none k v =
     silent code k (address_strobe_changes t) _ v (address_strobe_quiet code k t v none.strobe none.modifier)
     ∙ (silent code k (address_changes t) _ v (address_quiet code k t v none.address)
-    ∙ (silent code k (level_changes t) _ v (level_quiet code k t v none.first none.long_word none.write)
+    ∙ (silent code k (level_changes t) _ v (level_quiet code k t v none.long_word none.write)
     ∙ (silent code k (data_strobe_changes t) _ v (data_strobe_quiet code k t v none.strobe_1 none.strobe_0)
     ∙ (silent code k (data_changes t) _ v (data_quiet code k t v none.lanes none.upper_lanes)
     ∙ answer_quiet code k t v none.acknowledge none.error))))

@@ -24,13 +24,13 @@ use Rattle.vme_trace_laws.proofs.waves.EventLines.{IsCycleLine, none_parts, one_
 
 -- a data strobe is a line of a cycle
 strobe_line : (line : Code) → IsStrobe line → IsCycleLine line
-strobe_line line (inl same) = record { number = 79; is = same; past = omega arith }
-strobe_line line (inr same) = record { number = 80; is = same; past = omega arith }
+strobe_line line (inl same) = record { number = 78; is = same; past = omega arith }
+strobe_line line (inr same) = record { number = 79; is = same; past = omega arith }
 
 -- an answer is a line of a cycle
 answer_line : (line : Code) → IsAnswer line → IsCycleLine line
-answer_line line (inl same) = record { number = 83; is = same; past = omega arith }
-answer_line line (inr same) = record { number = 84; is = same; past = omega arith }
+answer_line line (inl same) = record { number = 82; is = same; past = omega arith }
+answer_line line (inr same) = record { number = 83; is = same; past = omega arith }
 
 -- a line that is a data strobe or an answer, which is high before an event
 pub record IsControl (line : Code) : Type 0 where

@@ -10,7 +10,7 @@ use Rattle.vme_trace.specs.declared.observation.Observation.{Observation}
 use Rattle.vme_trace.specs.declared.dump.change.Code.{Code}
 use Rattle.vme_trace.specs.declared.dump.change.Change.{Change}
 use Rattle.vme_trace.specs.declared.dump.change.Value.{Value}
-use Rattle.vme_trace.specs.declared.dump.change.Value.TheVariants.{Low, High, Number}
+use Rattle.vme_trace.specs.declared.dump.change.Value.TheVariants.{Low, High, Grants}
 use Rattle.vme_trace.specs.declared.dump.port.PortAccess.{PortAccess}
 use Rattle.vme_trace.specs.Changes.{change_if}
 use Rattle.vme_trace.specs.declared.dump.variable.Variable.{Variable}
@@ -61,23 +61,23 @@ module _ (o : Observation) (board : ℕ) where
   -- the grant lines in their own changes
   chain_own : (k : ℕ) (v : Value)
       → value_after (slot_code board 99) k (chain_changes o board) v
-      ≡ pulse (Number 4 (grant_lines o.grant)) (Number 4 15) (passes_grant o.grant board) (passes_grant o.grant board) (grant_edge o.activity) (grant_edge o.activity + 3) k v
+      ≡ pulse (Grants (grant_lines o.grant)) (Grants 15) (passes_grant o.grant board) (passes_grant o.grant board) (grant_edge o.activity) (grant_edge o.activity + 3) k v
   unfolding chain_changes
   chain_own k v =
-      own (slot_code board 99) k (passes_grant o.grant board) (grant_edge o.activity) (Number 4 (grant_lines o.grant)) _ v (own_code board 99)
-      ∙ last_own (slot_code board 99) k (passes_grant o.grant board) (grant_edge o.activity + 3) (Number 4 15) _ (own_code board 99)
+      own (slot_code board 99) k (passes_grant o.grant board) (grant_edge o.activity) (Grants (grant_lines o.grant)) _ v (own_code board 99)
+      ∙ last_own (slot_code board 99) k (passes_grant o.grant board) (grant_edge o.activity + 3) (Grants 15) _ (own_code board 99)
 
   -- after an event no grant line is low
-  pub chain_rests : (boards n : ℕ) → board < boards → value_at (slot_code board 99) (event_changes boards n o) (Number 4 15) 19 ≡ Number 4 15
+  pub chain_rests : (boards n : ℕ) → board < boards → value_at (slot_code board 99) (event_changes boards n o) (Grants 15) 19 ≡ Grants 15
   chain_rests boards n there =
       let passes = passes_grant o.grant board in
       let over = chain_within o.activity in
-      at_pulse (slot_code board 99) (event_changes boards n o) (Number 4 (grant_lines o.grant)) (Number 4 15) (Number 4 15) passes passes
+      at_pulse (slot_code board 99) (event_changes boards n o) (Grants (grant_lines o.grant)) (Grants 15) (Grants 15) passes passes
       (grant_edge o.activity) (grant_edge o.activity + 3) (omega arith)
       (λ k v. slot_part 99 boards n o board there k v ∙ chain_of_slot k v ∙ chain_own k v) 19
-      ∙ pulse_late (Number 4 (grant_lines o.grant)) (Number 4 15) (Number 4 15) passes passes (grant_edge o.activity) (grant_edge o.activity + 3) 19
+      ∙ pulse_late (Grants (grant_lines o.grant)) (Grants 15) (Grants 15) passes passes (grant_edge o.activity) (grant_edge o.activity + 3) 19
       (le-leb (grant_edge o.activity) 19 (omega (arith, leb-true (grant_edge o.activity + 3) 19 over))) over
-      ∙ rest_by passes (Number 4 (grant_lines o.grant)) (Number 4 15)
+      ∙ rest_by passes (Grants (grant_lines o.grant)) (Grants 15)
 
   -- a variable of the local port is moved by the port's changes alone
   port_of_slot : (letter : ℕ) → 101 < letter → (k : ℕ) (v : Value)

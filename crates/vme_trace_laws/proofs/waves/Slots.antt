@@ -9,9 +9,9 @@ use Rattle.vme_trace.specs.declared.observation.activity.Activity.TheVariants.{L
 use Rattle.vme_trace.specs.declared.observation.Observation.{Observation}
 use Rattle.vme_trace.specs.declared.dump.change.Code.{Code}
 use Rattle.vme_trace.specs.declared.dump.change.Value.{Value}
-use Rattle.vme_trace.specs.declared.dump.change.Value.TheVariants.{Low, High, Free, Released, Number, Lanes}
+use Rattle.vme_trace.specs.declared.dump.change.Value.TheVariants.{Low, High, Free, Released, Number, Lanes, Grants}
 use Rattle.vme_trace.specs.declared.dump.port.PortAccess.{PortAccess}
-use Rattle.vme_trace.specs.Changes.{level_of, change_if}
+use Rattle.vme_trace.specs.Changes.{level_of, change_if, no_lanes}
 use Rattle.vme_trace.specs.Variables.{bus_code, slot_code}
 use Rattle.vme_trace.specs.Ports as port
 use Rattle.vme_trace.specs.Ports.{port_access, last_edge, lanes_if, control_changes, bytes_changes, reply_changes, port_changes}
@@ -44,10 +44,10 @@ request_quiet code o j apart =
 pub chain_quiet : (code : Code) (o : Observation) (j : ℕ) → is_code code (slot_code j 99) ≡ false → IsQuiet code (chain_changes o j)
 unfolding chain_changes
 chain_quiet code o j apart =
-    append_quiet code (change_if (passes_grant o.grant j) (grant_edge o.activity) (slot_code j 99) (Number 4 (grant_lines o.grant)))
-    (change_if (passes_grant o.grant j) (grant_edge o.activity + 3) (slot_code j 99) (Number 4 15))
-    (if_quiet code (slot_code j 99) (passes_grant o.grant j) (grant_edge o.activity) (Number 4 (grant_lines o.grant)) apart)
-    (if_quiet code (slot_code j 99) (passes_grant o.grant j) (grant_edge o.activity + 3) (Number 4 15) apart)
+    append_quiet code (change_if (passes_grant o.grant j) (grant_edge o.activity) (slot_code j 99) (Grants (grant_lines o.grant)))
+    (change_if (passes_grant o.grant j) (grant_edge o.activity + 3) (slot_code j 99) (Grants 15))
+    (if_quiet code (slot_code j 99) (passes_grant o.grant j) (grant_edge o.activity) (Grants (grant_lines o.grant)) apart)
+    (if_quiet code (slot_code j 99) (passes_grant o.grant j) (grant_edge o.activity + 3) (Grants 15) apart)
 
 -- BBSY* of the slot moves no other variable
 pub busy_quiet : (code : Code) (o : Observation) (j : ℕ) → is_code code (slot_code j 100) ≡ false → IsQuiet code (busy_changes o j)
@@ -105,9 +105,9 @@ unfolding bytes_changes
 bytes_quiet code j a apart k v =
     silent code k (lanes_if a.bytes (if a.write then 1 else 3) (slot_code j 105)) _ v
     (lanes_quiet code (slot_code j 105) a.bytes (if a.write then 1 else 3) apart k v)
-    ∙ (silent code k (change_if (is_some a.bytes) 8 (slot_code j 105) Released) _ v (if_quiet code (slot_code j 105) (is_some a.bytes) 8 Released apart k v)
+    ∙ (silent code k (change_if (is_some a.bytes) 8 (slot_code j 105) no_lanes) _ v (if_quiet code (slot_code j 105) (is_some a.bytes) 8 no_lanes apart k v)
     ∙ (silent code k (lanes_if a.new 10 (slot_code j 105)) _ v (lanes_quiet code (slot_code j 105) a.new 10 apart k v)
-    ∙ if_quiet code (slot_code j 105) (is_some a.new) 17 Released apart k v))
+    ∙ if_quiet code (slot_code j 105) (is_some a.new) 17 no_lanes apart k v))
 
 -- the reply of a local port moves no other variable
 pub reply_quiet : (code : Code) (j : ℕ) (a : PortAccess) → is_code code (slot_code j 106) ≡ false → is_code code (slot_code j 107) ≡ false

@@ -3,8 +3,8 @@ use Rattle.vme_io.proofs.lemmas.Gathering.{SoFar}
 use Rattle.vme_stepper.specs.Turns.{state_after}
 use Rattle.vme_stepper.specs.Schedules.{file_turns}
 use Rattle.vme_stepper.specs.Steppers.{stepper_of, IsStepperOf}
-use Rattle.vme_trace.specs.Observations.{observed_from, observations}
-use Rattle.vme_trace.specs.Events.{events_text}
+use Rattle.vme_trace.specs.Observations.{observed_from}
+use Rattle.vme_trace.specs.Dumps.{rest_text, vcd_text}
 use Rattle.vme_trace.specs.Turns.{turns_left}
 use Rattle.vme_trace.proofs.trace.trace_turns.Given as goal
 
@@ -16,10 +16,11 @@ invariant-loop-slot g l = record {
   within : l.turns.board ≤ length l.config.boards;
   state : l.stepper ≡ stepper_of l.config (state_after l.config before);
   sound : IsStepperOf l.config l.stepper;
-  few : l.n ≤ length before;
+  few : l.progress.number ≤ length before;
+  shown : l.progress.shown ≤ l.progress.number;
   gathered : SoFar (g.W.Sink.contents l.fn.writer) (g.W.Sink.contents l.writer) l.text.items
-      (events_text (length l.config.boards) l.n (observed_from l.config l.stepper (turns_left l.config l.turns)))
-      (l.fn.text.items ++ events_text (length l.config.boards) 0 (observations l.config (file_turns l.config)));
+      (rest_text l.config l.progress l.values.items (observed_from l.config l.stepper (turns_left l.config l.turns)))
+      (l.fn.text.items ++ vcd_text l.fn.selection l.config (file_turns l.config));
   mark : g.W.Sink.is_marked l.writer ≡ false;
 }
 

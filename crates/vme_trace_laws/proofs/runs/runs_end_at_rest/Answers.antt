@@ -1,6 +1,7 @@
 use Rattle.std.proofs.Common.{length}
 use Rattle.vme_trace.specs.Observations.{observations}
-use Rattle.vme_trace.specs.declared.dump.change.Value.TheVariants.{Low, High, Released, Number}
+use Rattle.vme_trace.specs.declared.dump.change.Value.TheVariants.{Low, High, Grants}
+use Rattle.vme_trace.specs.Changes.{no_lanes}
 use Rattle.vme_trace.specs.Variables.{code_of}
 use Rattle.vme_trace_laws.specs.Shown.{data_lines, upper_data_lines}
 use Rattle.vme_trace_laws.specs.Events.{grant_lines_in}
@@ -19,17 +20,17 @@ returns-clause-answers c = λ config slots line is.
 
 pub returns-clause-data : goal.returns-clause-data
 returns-clause-data c = λ config slots.
-    run_rests data_lines (length config.boards) Released (λ n o. c.events_end_at_rest.ensures.data (length config.boards) n o) 0
+    run_rests data_lines (length config.boards) no_lanes (λ n o. c.events_end_at_rest.ensures.data (length config.boards) n o) 0
     (observations config slots)
 
 pub returns-clause-upper : goal.returns-clause-upper
 returns-clause-upper c = λ config slots.
-    run_rests upper_data_lines (length config.boards) Released (λ n o. c.events_end_at_rest.ensures.upper (length config.boards) n o) 0
+    run_rests upper_data_lines (length config.boards) no_lanes (λ n o. c.events_end_at_rest.ensures.upper (length config.boards) n o) 0
     (observations config slots)
 
 pub returns-clause-grants : goal.returns-clause-grants
 returns-clause-grants c = λ config slots board there.
-    run_rests (grant_lines_in board) (length config.boards) (Number 4 15)
+    run_rests (grant_lines_in board) (length config.boards) (Grants 15)
     (λ n o. c.events_end_at_rest.ensures.grants (length config.boards) n o board there) 0 (observations config slots)
 
 pub returns-clause-ports : goal.returns-clause-ports

@@ -1,21 +1,17 @@
 use Rattle.std.specs.Prelude.{◌++◌, codes}
-use Rattle.vme_trace.specs.declared.dump.variable.Variable.TheVariants.{FirstStrobe, SecondStrobe, DataLines, UpperDataLines, Acknowledge, BusError}
-use Rattle.vme_trace.specs.Headers.{data_text, declaration}
+use Rattle.vme_trace.specs.declared.dump.variable.Variable.TheVariants.{DataLines}
+use Rattle.vme_trace.specs.Headers.{data_text, part}
 use Rattle.vme_trace.proofs.Appends.{appended}
 use Rattle.vme_trace.proofs.dump.header.print_data.Goals as goal
 
 pub returns : goal.returns
 unfolding data_text
 returns c =
-    let p1 = declaration (codes "wire 1") FirstStrobe (codes "ds1_n") in
-    let p2 = declaration (codes "wire 1") SecondStrobe (codes "ds0_n") in
-    let p3 = declaration (codes "wire 32") DataLines (codes "d [31:0]") in
-    let p4 = declaration (codes "wire 32") UpperDataLines (codes "dh [63:32]") in
-    let p5 = declaration (codes "wire 1") Acknowledge (codes "dtack_n") in
-    let p6 = declaration (codes "wire 1") BusError (codes "berr_n") in
-    appended c.print_declaration-6.result c.args.text.now.items c.print_declaration.new.text.items c.print_declaration-6.new.text.items p1 (p2 ++ (p3 ++ (p4 ++ (p5 ++ p6)))) c.in_ok-print_declaration.ensures
-    (appended c.print_declaration-6.result c.print_declaration.new.text.items c.print_declaration-2.new.text.items c.print_declaration-6.new.text.items p2 (p3 ++ (p4 ++ (p5 ++ p6))) c.in_ok-print_declaration-2.ensures
-    (appended c.print_declaration-6.result c.print_declaration-2.new.text.items c.print_declaration-3.new.text.items c.print_declaration-6.new.text.items p3 (p4 ++ (p5 ++ p6)) c.in_ok-print_declaration-3.ensures
-    (appended c.print_declaration-6.result c.print_declaration-3.new.text.items c.print_declaration-4.new.text.items c.print_declaration-6.new.text.items p4 (p5 ++ p6) c.in_ok-print_declaration-4.ensures
-    (appended c.print_declaration-6.result c.print_declaration-4.new.text.items c.print_declaration-5.new.text.items c.print_declaration-6.new.text.items p5 p6 c.in_ok-print_declaration-5.ensures
-    c.print_declaration-6.ensures))))
+    let p1 = part (codes "wire 8") DataLines 0 (codes "d31_24 [7:0]") in
+    let p2 = part (codes "wire 8") DataLines 1 (codes "d23_16 [7:0]") in
+    let p3 = part (codes "wire 8") DataLines 2 (codes "d15_08 [7:0]") in
+    let p4 = part (codes "wire 8") DataLines 3 (codes "d07_00 [7:0]") in
+    appended c.print_part-4.result c.args.text.now.items c.print_part.new.text.items c.print_part-4.new.text.items p1 (p2 ++ (p3 ++ p4)) c.in_ok-print_part.ensures
+    (appended c.print_part-4.result c.print_part.new.text.items c.print_part-2.new.text.items c.print_part-4.new.text.items p2 (p3 ++ p4) c.in_ok-print_part-2.ensures
+    (appended c.print_part-4.result c.print_part-2.new.text.items c.print_part-3.new.text.items c.print_part-4.new.text.items p3 p4 c.in_ok-print_part-3.ensures
+    c.print_part-4.ensures))

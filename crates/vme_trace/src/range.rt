@@ -1,7 +1,6 @@
-//! The events that a page shows.
-ghost use Rattle.std.specs.Prelude.{◌≡◌};
+//! The events that are shown.
 
-/// The numbers of the events that a page shows, the last included. Events are numbered from 1.
+/// The numbers of the events that are shown, the last included. Events are numbered from 1.
 #[derive(Clone, Copy, Debug, PartialEq, Eq)]
 pub struct EventRange {
     /// The first event.
@@ -11,10 +10,10 @@ pub struct EventRange {
 }
 
 impl EventRange {
-    /// The events that a page shows if nothing else is said: 1 to 1,000.
-    pub const DEFAULT: EventRange = EventRange {
+    /// All events.
+    pub const ALL: EventRange = EventRange {
         first: 1,
-        last: 1000,
+        last: u32::MAX,
     };
 
     /// Reads a range, as `11-20`: two decimal numbers without signs and of at most ten digits, the

@@ -1,6 +1,6 @@
 use Rattle.std.proofs.Common.{sym, ◌∙◌}
-use Rattle.vme_page.proofs.Edges.{past_due, past_other}
-use Rattle.vme_page.proofs.diagram.point.Latest.after.Goals as goal
+use Rattle.vme_trace.proofs.Edges.{past_due, past_other}
+use Rattle.vme_trace.proofs.dump.latest.Latest.after.Goals as goal
 
 pub returns-then-is_due : goal.returns-then-is_due
 returns-then-is_due c = λ later.
