@@ -11,14 +11,15 @@ from xml.etree.ElementTree import Element
 
 from waveform import need
 
-# Widths of a letter of 11 px: in the fonts of texts and of names.
-LETTER, NAME_LETTER = 6.63, 6.2
-CELLS, CELL, NAMES = 10, 104, 92
+# Widths of a letter of 12 px: in the font of texts, and in that of names and headings.
+LETTER, NAME_LETTER = 7.23, 6.7
+SANS = ("n", "q", "w")
+CELLS, CELL, NAMES, LEAST = 10, 104, 92, 500
 # The rows of the bus by their names, in order, and how far apart they are.
-BUS = ["AM A31-A02", "WRITE*", "LWORD*", "A01", "AS*", "DS1*", "DS0*", "D31-D00", "DTACK*", "BERR*"]
-ROW, BAR, PORT = 24, 14, 30
-# How far below the top of a row its text, and below that of an access its name and its two texts.
-BASE, PORT_NAME, PORT_FIRST, PORT_SECOND = 11, 18, 12, 25
+BUS = ["AM A31-A01", "WRITE*", "LWORD*", "AS*", "DS1*", "DS0*", "D31-D00", "DTACK*", "BERR*"]
+ROW, BAR, PORT = 24, 14, 48
+# How far below the top of a row its text, and below that of an access its three texts.
+BASE, PORT_TEXTS = 11, (13, 28, 43)
 SLOPES = {"": 0, "l4 14": 14, "l4 -14": -14}
 VOID = {"meta"}
 LEVEL = re.compile(r"M(\d+) (\d+)(l4 -?14)?H(\d+)")
@@ -55,16 +56,17 @@ class Page(html.parser.HTMLParser):
             self.parts[self.open[-1]] = self.parts.get(self.open[-1], "") + data
 
     def events(self) -> dict[int, list["Cell"]]:
-        """The cells of each event by its number, in order. Those of one event are in one strip."""
+        """The cells of each event by its number, in order. Those of one event are in one strip; polls that wait share a cell."""
         found: dict[int, list[Cell]] = {}
         for strip in self.strips:
-            need(strip.cells[0].number is not None, "a strip begins in an event")
-            need(strip.label == f"events from {strip.cells[0].number}", f"the label {strip.label}")
+            need(strip.cells[0].numbers, "a strip begins in an event")
+            need(strip.label == f"events from {strip.cells[0].numbers[0]}", f"the label {strip.label}")
             for cell in strip.cells:
-                if cell.number is not None:
-                    need(cell.number not in found, f"event {cell.number} twice")
-                    found[cell.number] = []
-                found[max(found)].append(cell)
+                for number in cell.numbers:
+                    need(number not in found, f"event {number} twice")
+                    found[number] = [cell]
+                if not cell.numbers:
+                    found[max(found)].append(cell)
         return found
 
 
@@ -77,10 +79,11 @@ class Part(NamedTuple):
 
 
 class Access(NamedTuple):
-    """What a cell shows of an access by a local port: its frame, and its two texts."""
+    """What a cell shows of an access by a local port: its frame, the slot and the way, the offset, and the bytes or the error."""
 
     frame: str
     first: str
+    offset: str
     second: tuple[str, str] | None
 
 
@@ -92,15 +95,20 @@ class Cell:
         self.leads, self.left = column == 0, list(group)
         sides = self.take(lambda one: one.tag == "path" and one.get("class") == "g")
         need([it.get("d") for it in sides] == [f"M0 0V{strip.height}"], "the side of a cell")
-        number, self.line = self.text("e", 52, 14), self.text("s", 52, 28)
-        self.number = int(number) if number else None
-        self.what = self.text("w", 52, 40)
+        titles = self.take(lambda one: one.tag == "title" and not one.attrib)
+        need(len(titles) <= 1, "two titles")
+        self.title = (titles[0].text or "") if titles else None
+        number, self.line = self.text("e", 52, 14), self.text("s", 52, 29)
+        first, _, last = (number or "1-0").partition("-")
+        self.numbers = range(int(first), int(last or first) + 1)
+        self.what = self.text("w", 52, 44)
         self.bars = {slot: self.bar(top) for slot, top in strip.bars.items()}
-        self.upper = self.lanes(strip.tops["AM A31-A02"])
-        self.address = self.address_at(strip.tops["AM A31-A02"])
+        self.strip = strip
+        self.upper = self.lanes(strip.tops["AM A31-A01"])
+        self.address = self.address_at(strip.tops["AM A31-A01"])
         self.data = self.row(strip.tops["D31-D00"], self.lanes(strip.tops["D31-D00"]))
-        self.levels = {name: self.level(strip.tops[name]) for name in BUS if name not in ("AM A31-A02", "D31-D00")}
-        self.ports = {slot: self.access(top) for slot, top in strip.ports.items()}
+        self.levels = {name: self.level(strip.tops[name]) for name in BUS if name not in ("AM A31-A01", "D31-D00")}
+        self.access = self.access_at(strip.local) if strip.local is not None else None
         need(not self.left, f"event {number}: no row has {[(it.tag, it.attrib, it.text) for it in self.left]}")
 
     def take(self, holds) -> list[Element]:
@@ -189,15 +197,17 @@ class Cell:
         frames = [(x, to, self.text("t", (x + to) // 2, top + BASE)) for _, x, to in self.rectangles(("r",), top, BAR)]
         return frames, [(x, to, self.text("o", (x + to) // 2, top + BASE)) for _, x, to in self.rectangles(("h",), top, BAR)]
 
-    def access(self, top: int) -> Access | None:
-        """The row of a local port."""
+    def access_at(self, top: int) -> Access | None:
+        """The row of the local accesses."""
         found = self.rectangles(("v", "v x"), top, PORT)
-        need([it[1:] for it in found] in ([], [(10, 96)]), f"the frames {found}")
+        need([it[1:] for it in found] in ([], [(8, 98)]), f"the frames {found}")
         if not found:
             return None
-        first, bytes_, error = self.text("t", 53, top + PORT_FIRST), self.text("t", 53, top + PORT_SECOND), self.text("b", 53, top + PORT_SECOND)
+        first, offset, bytes_ = (self.text("t", 53, top + it) for it in PORT_TEXTS)
+        error = self.text("b", 53, top + PORT_TEXTS[2])
         need(not (bytes_ and error), f"{bytes_} and {error}")
-        return Access(found[0][0], first or "", ("t", bytes_) if bytes_ is not None else ("b", error) if error is not None else None)
+        third = ("t", bytes_) if bytes_ is not None else ("b", error) if error is not None else None
+        return Access(found[0][0], first or "", offset or "", third)
 
 
 class Strip:
@@ -206,26 +216,32 @@ class Strip:
     def __init__(self, text: str) -> None:
         root = xml.etree.ElementTree.fromstring(text)
         self.label = root.get("aria-label")
+        # The slots that were found to act in it.
+        self.acting: set[int] = set()
         self.width, self.height = int(root.get("width", 0)), int(root.get("height", 0))
-        need(self.width == NAMES + CELLS * CELL, f"the width {self.width}")
+        groups = root.findall("g")
+        need(1 <= len(groups) <= CELLS, f"{len(groups)} cells")
+        need(self.width == max(NAMES + len(groups) * CELL, LEAST), f"the width {self.width}")
         need(root.get("viewBox") == f"0 0 {self.width} {self.height}", "the view is another")
         need({it.tag for it in root} <= {"text", "g"}, "a strip has other elements")
         self.read_names([(it.text or "", int(it.get("y", 0))) for it in root.findall("text")])
-        groups = root.findall("g")
-        need(1 <= len(groups) <= CELLS, f"{len(groups)} cells")
         self.lies_apart(root)
         self.cells = [Cell(one, i, self) for i, one in enumerate(groups)]
 
     def read_names(self, names: list[tuple[str, int]]) -> None:
         """Reads the names of the rows, from the top."""
-        need(names[:2] == [("event", 14), ("slot:line", 28)], f"the names {names[:2]}")
+        need(names[:2] == [("event", 14), ("slot:line", 29)], f"the names {names[:2]}")
         self.bars = {int(it[5:]): y - BASE for it, y in names if re.fullmatch(r"slot \d+", it)}
-        self.ports = {int(it[5:-6]): y - PORT_NAME for it, y in names if re.fullmatch(r"slot \d+ local", it)}
+        waiting = [y - BASE for it, y in names if it == "waiting"]
+        self.waiting = [int(slot) for it, _ in names if re.fullmatch(r"slots( \d+)+", it) for slot in it.split()[1:]]
+        need(len(waiting) == bool(self.waiting), f"the slots {self.waiting} wait")
+        self.local = next((y - PORT_TEXTS[0] for it, y in names if it == "local port"), None)
         self.tops = {it: y - BASE for it, y in names if it in BUS}
-        need(len(names) == 2 + len(self.bars) + len(BUS) + len(self.ports), f"the names {names}")
-        tops = list(self.bars.values()) + list(self.tops.values()) + list(self.ports.values())
+        local = [] if self.local is None else [self.local]
+        need(len(names) == 2 + len(self.bars) + 2 * len(waiting) + len(BUS) + len(local), f"the names {names}")
+        tops = list(self.bars.values()) + waiting + list(self.tops.values()) + local
         need(list(self.tops) == BUS and tops == sorted(tops), "the order of the rows")
-        heights = [ROW] * (len(self.bars) + len(BUS)) + [PORT] * len(self.ports)
+        heights = [ROW] * (len(self.bars) + len(waiting) + len(BUS)) + [PORT] * len(local)
         need(all(top + height <= after for top, height, after in zip(tops, heights, tops[1:] + [self.height])), "a row lies in another")
 
     def lies_apart(self, root: Element) -> None:
@@ -233,11 +249,11 @@ class Strip:
         boxes = []
         for shift, group in [(0, root)] + [(NAMES + CELL * i, one) for i, one in enumerate(root.findall("g"))]:
             for one in group.findall("text"):
-                name = one.get("class") == "n"
-                width, x = len(one.text or "") * (NAME_LETTER if name else LETTER), int(one.get("x", 0)) + shift
-                left, y = x - width if name else x - width / 2, int(one.get("y", 0))
-                need(0 <= left and left + width <= self.width and 0 <= y - 9 and y <= self.height, f"{one.text} lies outside")
-                boxes.append((left, left + width, y - 8, y, one.text))
+                kind = one.get("class")
+                width, x = len(one.text or "") * (NAME_LETTER if kind in SANS else LETTER), int(one.get("x", 0)) + shift
+                left, y = x - {"n": width, "q": 0}.get(kind, width / 2), int(one.get("y", 0))
+                need(0 <= left and left + width <= self.width and 0 <= y - 10 and y <= self.height, f"{one.text} lies outside")
+                boxes.append((left, left + width, y - 9, y, one.text))
             for one in group.findall("rect"):
                 need(0 <= int(one.get("x", 0)) and int(one.get("x", 0)) + int(one.get("width", 0)) <= CELL, "a bar leaves its cell")
         for i, (left, right, top, base, word) in enumerate(boxes):

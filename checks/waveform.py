@@ -23,6 +23,8 @@ LOCATIONS = {
 ROW = 16
 # The lines of a script that ask for one transfer.
 REQUESTS = ("r", "w", "m", "br", "bw", "bf")
+# The names of four data lanes, by what is before them and by the number of the highest line.
+LANES = re.compile(r"(.*\bdh?|.*_lp_d)(\d\d)_\d\d")
 
 
 class Fault(Exception):
@@ -87,21 +89,41 @@ class Dump:
                 value, code = line[1:].split(" ") if line[0] == "b" else (line[0], line[1:])
                 self.times[-1][1].append((self.names[code], value))
         self.slots = sorted(int(name[1:-5]) for name in self.names.values() if re.fullmatch(r"s\d+_line", name))
+        self.times = [(time, joined(changes)) for time, changes in self.times]
 
     def events(self) -> Iterator[Event]:
-        """The events, in order."""
+        """The events, in order. The n-th one takes the times from 100 n on."""
         now: dict[str, str] = {}
         found: list[Event] = []
         for time, changes in self.times:
-            number, edge = time // EVENT, time % EVENT // EDGE
-            if number and (not found or found[-1].number != number) and changes:
-                found.append(Event(number, dict(now), []))
+            place, edge = time // EVENT, time % EVENT // EDGE
+            if place and changes and not edge:
+                need(place == len(found) + 1, "an event is missing", time)
+                found.append(Event(number(dict(changes)["event"]), dict(now), []))
             for name, value in changes:
-                if number:
+                if place:
                     found[-1].changes.append(Change(edge, name, value))
                 now[name] = value
-        need([it.number for it in found] == list(range(1, len(found) + 1)), "an event is missing")
+        need(all(one.number < other.number for one, other in zip(found, found[1:])), "the numbers of events fall")
         return iter(found)
+
+
+def joined(changes: list[tuple[str, str]]) -> list[tuple[str, str]]:
+    """The changes with those of four data lanes as one of all: `z` if nothing drives them, else eight digits for each."""
+    found: list[tuple[str, str]] = []
+    parts: dict[str, dict[int, str]] = {}
+    for name, value in changes:
+        lane = LANES.fullmatch(name)
+        if not lane:
+            found.append((name, value))
+            continue
+        if lane[1] not in parts:
+            found.append((lane[1], ""))
+        parts.setdefault(lane[1], {})[int(lane[2])] = value
+    need(all(len(it) == 4 for it in parts.values()), f"the lanes {parts}")
+    values = {name: [it[high] for high in sorted(it, reverse=True)] for name, it in parts.items()}
+    wide = {name: "".join("z" * 8 if it == "z" else it for it in all_) for name, all_ in values.items()}
+    return [(name, value) if name not in wide else (name, "z" if set(wide[name]) == {"z"} else wide[name]) for name, value in found]
 
 
 def number(digits: str) -> int | None:
@@ -151,7 +173,9 @@ class Transfer:
     """What a monitor has seen since AS* fell: the address, the bytes of its data so far, and whether it reads."""
 
     def __init__(self, now: dict[str, str]) -> None:
-        self.address, self.a01 = number(now["a"]), now["a01"]
+        address = number(now["a"])
+        self.address, self.a01 = address & ~3, str(address >> 1 & 1)
+        need(address % 2 == 0, f"A00 of {address:08x} is no line")
         self.count, self.reads, self.last = 0, now["write_n"] == "1", 0
 
     def place(self, now: dict[str, str], time: int) -> tuple[int, str]:
@@ -196,7 +220,7 @@ class Monitor:
         self.rules(time, before)
         if "event" in changes:
             self.events += 1
-            need(number(self.now["event"]) == self.events, "an event is missing", time)
+            need(number(before["event"]) < number(self.now["event"]), "the numbers of events fall", time)
             need(time == EVENT * self.events, "an event begins at another time", time)
         if before["as_n"] == "1" and self.now["as_n"] == "0":
             self.seen[self.line()], self.transfer = [], Transfer(self.now)
@@ -229,8 +253,8 @@ class Monitor:
         self.seen[self.line()].append((data, berr, s["write_n"] == "1", event))
         if wide:
             upper = int("".join(octets(s["dh"])), 2)
-            on_address = number(s["a"]), number(s["a01"]), number(s["lword_n"])
-            need(on_address == (upper & ~3, upper >> 1 & 1, upper & 1), "the address lines carry other bytes than D63 to D32", time)
+            on_address = number(s["a"]), number(s["lword_n"])
+            need(on_address == (upper & ~1, upper & 1), "the address lines carry other bytes than D63 to D32", time)
             need(len(data) == 8, f"{len(data)} bytes of eight", time)
         self.asked(time, data)
         if data and not berr:
@@ -292,6 +316,9 @@ class Monitor:
                 need(bool(low) == (s[answer] == "0"), f"{answer} against the strobes", time)
         if any(before[name] == "0" and s[name] == "0" for name in ("dtack_n", "berr_n")) and low:
             need(before["d"] == s["d"] and before["dh"] == s["dh"], "data change under an answer", time)
+        granted = [(slot, level) for slot in self.slots for level in range(4) if s[f"s{slot}_bg{level}in_n"] == "0"]
+        need(len({level for _, level in granted}) <= 1, "grants of two levels", time)
+        need([slot for slot, _ in granted] == self.slots[: len(granted)], "a grant passes over a slot", time)
         drivers = [slot for slot in self.slots if s[f"s{slot}_bbsy_n"] == "0"]
         need(len(drivers) <= 1, "two slots drive BBSY*", time)
         need((s["bbsy_n"] == "0") == bool(drivers), "BBSY* without a slot", time)
