@@ -12,7 +12,7 @@ use Rattle.vme_trace.specs.Changes.{level_of, change_if, no_lanes}
 use Rattle.vme_trace.specs.Handshakes.{edge_of}
 
 -- the edge at which the data are driven: by the master at the begin, and by the board once the strobes are low;
--- IEEE 1014-1987, 2.4 (data transfer bus timing)
+-- IEEE 1014-1987, 2 (data transfer bus)
 abbrev pub drive_edge : Handshake → ℕ
 drive_edge t = if t.lines.write then edge_of t BOARD_DRIVES else edge_of t MASTER_DRIVES
 
@@ -41,7 +41,7 @@ upper_number lanes = 16777216 * byte_on (lane_at lanes 0) + 65536 * byte_on (lan
 abbrev pub is_wide : Handshake → Bool
 is_wide t = t.lines.am.wide && t.carries
 
--- AS* and the address modifier; IEEE 1014-1987, 2.2.2 (address modifier lines) and 2.4
+-- AS* and the address modifier; IEEE 1014-1987, 2.2.2 (address modifier lines), and 2 (data transfer bus)
 unfoldable pub address_strobe_changes : Handshake → List Change
 address_strobe_changes t =
     change_if t.opens FIRST (code_of AddressStrobe) Low
@@ -79,7 +79,7 @@ level_changes t =
     ++ (change_if t.falls SECOND (code_of WriteLine) Low
     ++ change_if t.ends (edge_of t ADDRESS_RELEASED) (code_of WriteLine) Free))
 
--- DS1* and DS0*, those that the location has low; IEEE 1014-1987, 2.2.1 and 2.4
+-- DS1* and DS0*, those that the location has low; IEEE 1014-1987, 2.2.1 (addressing lines), and 2 (data transfer bus)
 unfoldable pub data_strobe_changes : Handshake → List Change
 data_strobe_changes t =
     change_if (not t.lines.strobes.ds1) (edge_of t STROBES_FALL) (code_of FirstStrobe) Low
@@ -95,7 +95,7 @@ data_changes t =
     ++ (change_if (is_wide t) (drive_edge t) (code_of UpperDataLines) (Lanes (upper_lanes t.lines.lanes))
     ++ change_if (is_wide t) (edge_of t DATA_RELEASED) (code_of UpperDataLines) no_lanes))
 
--- DTACK* or BERR*, which falls while a strobe is low, and rises after both are high; IEEE 1014-1987, 2.4
+-- DTACK* or BERR*, which falls while a strobe is low, and rises after both are high; IEEE 1014-1987, 2 (data transfer bus)
 unfoldable pub answer_changes : Handshake → List Change
 answer_changes t =
     change_if (not t.berr) (edge_of t ANSWER_FALLS) (code_of Acknowledge) Low

@@ -16,7 +16,7 @@ ghost use Rattle.vme_trace_laws.specs.Shown.{address_strobe, data_lines, upper_d
 ghost use Rattle.vme_trace.specs.Shown.{value_at};
 ghost use Rattle.vme_trace_laws.specs.Events.{IsHandshakeOf, IsWithin, HasStrobes, event_line, event_strobe, grant_lines_in, selected_line, IsPortLine};
 
-/// States the rules of strobes and answers (IEEE 1014-1987, 2.4) of a whole event with no handshake,
+/// States the rules of strobes and answers (IEEE 1014-1987, 2) of a whole event with no handshake,
 /// one, or two, as in a read-modify-write. A data strobe is low only while AS* is, and AS* stays low
 /// from the first handshake to the end of the second. DTACK* or BERR* falls only while a data strobe
 /// is low, if the locations have one, and rises only when both are high; they are not both low.
@@ -40,7 +40,7 @@ pub fn events_keep_the_rules()
 {}
 
 /// States that in a whole event the data lines have the bytes of the datum as long as an answer and a
-/// data strobe are low within a handshake that carries data (IEEE 1014-1987, 2.4). In a
+/// data strobe are low within a handshake that carries data (IEEE 1014-1987, 2). In a
 /// read-modify-write these are the bytes that were read, and then those that are written.
 pub fn events_show_their_data()
     ensures { (boards n : ℕ) (o : Observation) (t : Handshake) (line strobe : Code) (k : ℕ)
@@ -52,7 +52,7 @@ pub fn events_show_their_data()
 
 /// States that an event leaves data strobes, DTACK* and BERR* high, the data lines released, the grant
 /// lines of each slot high, and the local port of each board idle, if they were so before it; and that
-/// AS* is high and its board not selected if a transfer ends with it (IEEE 1014-1987, 2.4 and 3.3).
+/// AS* is high and its board not selected if a transfer ends with it (IEEE 1014-1987, 2 and 3.3).
 pub fn events_end_at_rest()
     ensures strobes { (boards n : ℕ) (o : Observation) (line : Code) → IsStrobe line →
         event_line boards n o line END ≡ High }

@@ -8,13 +8,13 @@ ghost use Rattle.vme_trace.specs.Bus.{address_number, is_wide, lower_lanes, hand
 ghost use Rattle.vme_trace_laws.specs.Shown.{address_strobe_at, line_at, address_modifier, address_lines, long_word, write_line, first_strobe, second_strobe, data_lines, acknowledge, bus_error, IsStrobe, IsAnswer, HasStrobe};
 ghost use Rattle.vme_trace.specs.Shown.{value_at};
 
-/// States that a data strobe is low only while AS* is low (IEEE 1014-1987, 2.4).
+/// States that a data strobe is low only while AS* is low (IEEE 1014-1987, 2).
 pub fn strobes_are_low_under_the_address_strobe()
     ensures { (t : Handshake) (line : Code) (k : ℕ) →
         IsStrobe line → line_at t line k ≡ Low → address_strobe_at t k ≡ Low }
 {}
 
-/// States the order of strobes and answers in a handshake (IEEE 1014-1987, 2.4). DTACK* or BERR*
+/// States the order of strobes and answers in a handshake (IEEE 1014-1987, 2). DTACK* or BERR*
 /// falls only while a data strobe is low, if the location has one; it rises only when both are high,
 /// and no handshake has both answers.
 pub fn answers_follow_the_strobes()
@@ -29,7 +29,7 @@ pub fn answers_follow_the_strobes()
 {}
 
 /// States that the data lines have the bytes of the datum as long as an answer and a data strobe are
-/// low (IEEE 1014-1987, 2.4), if the handshake carries data.
+/// low (IEEE 1014-1987, 2), if the handshake carries data.
 pub fn data_stand_under_the_answer()
     ensures { (t : Handshake) (line strobe : Code) (k : ℕ) (before : Value) →
         IsTrue t.carries → IsAnswer line → IsStrobe strobe →
@@ -38,7 +38,7 @@ pub fn data_stand_under_the_answer()
 {}
 
 /// States that, while an answer is low, the address modifier, A31 to A01, LWORD* and WRITE* have the
-/// levels of the cycle's lines, in a handshake for which AS* falls (IEEE 1014-1987, 2.4). For A31 to
+/// levels of the cycle's lines, in a handshake for which AS* falls (IEEE 1014-1987, 2). For A31 to
 /// A01 and LWORD* the address lines carry no data; for WRITE* it does not fall within the handshake.
 pub fn the_address_stands_under_the_answer()
     ensures modifier { (t : Handshake) (line : Code) (k : ℕ) (before : Value) → IsTrue t.opens →

@@ -66,7 +66,7 @@ pub fn one_slot_drives_busy()
 
 /// States that after turns of any slots the data strobes, DTACK* and BERR* are high, the data lines
 /// released, the grant lines of each slot high, and the local port of each board idle
-/// (IEEE 1014-1987, 2.4 and 3.3).
+/// (IEEE 1014-1987, 2 and 3.3).
 pub fn runs_end_at_rest()
     ensures strobes { (config : Configuration) (slots : List ℕ) (line : Code) → IsStrobe line →
         value_after_run line (length config.boards) (observations config slots) High ≡ High }

@@ -17,7 +17,7 @@ ghost use Rattle.vme_trace.specs.Shown.{value_after_run, value_in_run};
 use crate::events::{events_end_at_rest, events_keep_the_rules};
 
 /// States that AS* is low while a transfer is open, from its first event to its last and over all
-/// events between them, and high while none is (IEEE 1014-1987, 2.4). So AS* before each event is as
+/// events between them, and high while none is (IEEE 1014-1987, 2). So AS* before each event is as
 /// `events_keep_the_rules` has it: high if the event begins a transfer, and low if it goes on with one,
 /// which is of the same board. At each edge of a run a data strobe is low only while AS* is, and AS*
 /// only while the slot of the transfer's board drives BBSY*.
