@@ -25,14 +25,18 @@ pub fn all() -> [&'static [Text]; 6] {
 }
 
 /// Returns the texts that a line asks for. The line has codes in any case, or is a reply, a refusal
-/// or a fault as `vme` or `bendrika` printed it, or the first line of a finding as `bendrika check`
-/// printed it.
+/// or a fault as `vme` or `bendrika` printed it, or the first or the last line of a finding as
+/// `bendrika check` printed it.
 ///
 /// # Errors
 ///
 /// An allocation failed.
 pub fn texts_in(alloc: Global, line: &str) -> Result<Asked, AllocError> {
     let mut texts = Vec::new(alloc);
+    let line = match line.rsplit_once(": vme answers ") {
+        Some((_, refusal)) => refusal,
+        None => line,
+    };
     if let Some(text) = text_of(line).or(fault_in(line)).or(finding_in(line)) {
         texts.push(text)?;
         return Ok(Asked::Texts(texts));
