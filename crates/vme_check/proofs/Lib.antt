@@ -1,4 +1,4 @@
 pub mod Verdicts
 pub mod Refusals
-pub mod RequestRefusals
 pub mod Inputs
+pub mod LineCounts

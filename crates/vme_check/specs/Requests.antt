@@ -1,14 +1,19 @@
 -- The refusals that `vme cycles` gives for request lines.
-use Rattle.std.specs.Prelude.{◌≡◌, ℕ, List, [], ◌∷◌, ◌++◌, option_map, option_to_list, Option, Some, None, Result, Ok, Err}
+use Rattle.std.specs.Prelude.{◌≡◌, ℕ, nat_lt, Bool, true, false, not, ◌&&◌, List, is_some, option_map, Option, Some, None, Result, Ok, Err}
+use Rattle.std.specs.List.{count_by}
+use Rattle.vme_am.specs.declared.code.Space.{Space}
+use Rattle.vme_am.specs.declared.code.Space.TheVariants.{A32}
 use Rattle.vme_cycle.specs.declared.request.Request.{Request}
-use Rattle.vme_cycle.specs.Lawful.{first_refusal}
+use Rattle.vme_cycle.specs.declared.fault.CycleFault.{CycleFault}
+use Rattle.vme_cycle.specs.Lawful.{Transfer, first_refusal, transfer_of}
+use Rattle.vme_cycle.specs.Requests.{addr_of}
 use Rattle.vme_grammar.specs.declared.fault.LineFault.{LineFault}
 use Rattle.vme_engines.specs.Lines.{request_of}
-use Rattle.vme_faults.specs.declared.finding.Finding.{Finding}
 use Rattle.vme_faults.specs.declared.cause.Cause.{Cause}
 use Rattle.vme_faults.specs.declared.cause.Cause.TheVariants as causes
 use Rattle.vme_positions.specs.declared.place.Place.{Place}
 use Rattle.vme_positions.specs.declared.place.Place.TheVariants.{Word}
+use Rattle.vme_check.specs.declared.report.form.Counts.{Counts}
 use Rattle.vme_check.specs.declared.findings.request_line.RequestRefusal.{RequestRefusal}
 use Rattle.vme_check.specs.declared.findings.request_line.RequestRefusal.TheVariants.{Line, Cycle}
 use Rattle.vme_faults.specs.Causes.{line_fault, cycle_fault}
@@ -30,12 +35,30 @@ abbrev pub IsOnLine : ℕ → Place → Type 0
 IsOnLine number (Word board line from to) = (board ≡ 0) × (line ≡ number)
 IsOnLine number place = ⊥
 
--- the refusals of lines, in their order
-abbrev pub refusals_of : List (List ℕ) → List RequestRefusal
-refusals_of [] = []
-refusals_of (line ∷ more) = option_to_list (request_refusal (request_of line)) ++ refusals_of more
+-- whether a space is the extended one
+abbrev pub is_extended : Space → Bool
+is_extended A32 = true
+is_extended _ = false
 
--- the refusals of findings, in their order
-abbrev pub refusals_by : List Finding → List RequestRefusal
-refusals_by [] = []
-refusals_by (finding ∷ more) = option_to_list (refusal_by finding.cause) ++ refusals_by more
+-- how many lines are refused
+abbrev pub errors_in : List (List ℕ) → ℕ
+errors_in = count_by (λ line. is_some (request_refusal (request_of line)))
+
+-- whether the code or the address of a lawful request does not select the board: 4,096 bytes of the extended space from 0 on
+abbrev pub misses_board : Result Transfer CycleFault → Bool
+misses_board (Ok t) = not (is_extended t.am.space && nat_lt (addr_of t.request) 4096)
+misses_board (Err fault) = false
+
+-- whether a line is a lawful request that does not select the board
+abbrev pub is_warned : Result (Option Request) LineFault → Bool
+is_warned (Ok (Some request)) = misses_board (transfer_of request)
+is_warned _ = false
+
+-- how many lines are lawful requests that do not select the board
+abbrev pub warnings_in : List (List ℕ) → ℕ
+warnings_in = count_by (λ line. is_warned (request_of line))
+
+-- the counts of the findings of lines: an error for each refused line, a warning for each lawful one that does not select
+-- the board
+abbrev pub AreCountsOf : List (List ℕ) → Counts → Type 0
+AreCountsOf lines counts = (counts.errors ≡ errors_in lines) × (counts.warnings ≡ warnings_in lines)

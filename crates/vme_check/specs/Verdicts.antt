@@ -1,5 +1,5 @@
 -- The findings of a file, and how they relate to its refusal.
-use Rattle.std.specs.Prelude.{◌≡◌, ℕ, List, [], ◌∷◌, true, Option, Some, None, Result, Ok, Err}
+use Rattle.std.specs.Prelude.{◌≡◌, ℕ, Bool, true, not, List, [], ◌∷◌, Option, Some, None, Result, Ok, Err}
 use Rattle.std.specs.List.{list_all}
 use Rattle.vme_script.specs.declared.fault.ConfigFault.{ConfigFault}
 use Rattle.vme_script.specs.Configurations.{Configuration}
@@ -12,6 +12,10 @@ use Rattle.vme_faults.specs.Severities.{is_warning}
 abbrev pub IsVerdict : List ℕ → Result Configuration ConfigFault → Type 0
 IsVerdict input (Ok config) = Configures input config
 IsVerdict input (Err fault) = IsRefusedAs input fault
+
+-- whether a finding is an error
+abbrev pub is_error : Finding → Bool
+is_error finding = not (is_warning finding)
 
 -- the refusal of the first finding
 abbrev pub first_refusal : List Finding → Option ConfigFault

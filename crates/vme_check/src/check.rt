@@ -1,17 +1,16 @@
 //! The engine of `bendrika check`: from the bytes of a configuration file to its findings.
-ghost use Rattle.std.specs.Prelude.{◌≡◌, false, IsTrue, IfOk, IfErr, IfSome};
+ghost use Rattle.std.specs.Prelude.{◌≡◌, ◌==◌, false, is_none, IsTrue, IfOk, IfErr, IfSome};
 ghost use Rattle.vme_report.specs.Ends.{IsReportFault, is_write_end};
 ghost use Rattle.vme_check.specs.Verdicts.{first_refusal};
 ghost use Rattle.vme_check.specs.Answers.{IsAnswer};
 ghost use Rattle.vme_engines.specs.Faults.{IsCyclesFault, ReadsWithin, is_read_failure, is_write_failure};
 
-use crate::findings::findings_of;
-use crate::report::{Counts, Form, Input, print_findings};
+use crate::findings::{counts_of, findings_of};
+use crate::report::{Counts, Form, print_file};
 use std::alloc::Global;
 use vme_engines::{FILE_LIMIT, ProgramFault, read_input};
 use vme_faults::Finding;
 use vme_io::{Sink, Source};
-use vme_positions::Outline;
 use vme_report::RunFault;
 use vme_script::ConfigFault;
 
@@ -45,6 +44,7 @@ pub fn check_engine<R: Source, W: Sink>(
     requires writer_unmarked { W.is_marked writer.old ≡ false }
     ensures answer { IfSome (R.remaining reader.old) (λ input.
         IfOk result (λ end. IsAnswer input end.refusal)) }
+    ensures counts { IfOk result (λ end. is_none end.refusal ≡ (end.counts.errors == 0)) }
     ensures quiet { IsTrue form.now.quiet → writer.new ≡ writer.old }
     ensures read { R.is_marked reader.new ≡ is_read_failure result }
     ensures limit { ReadsWithin FILE_LIMIT (R.remaining reader.old) (R.remaining reader.new) result }
@@ -57,7 +57,7 @@ pub fn check_engine<R: Source, W: Sink>(
 }
 
 /// Finds the faults and warnings of a configuration file's text, and prints them.
-#[tactic(auto, using(crate::proofs::Refusals::answered))]
+#[tactic(auto, using(crate::proofs::Refusals::answered, crate::proofs::Refusals::counted))]
 fn check_text<W: Sink>(
     alloc: Global,
     name: &str,
@@ -67,24 +67,21 @@ fn check_text<W: Sink>(
 ) -> Result<CheckEnd, RunFault>
     requires unmarked { W.is_marked writer.old ≡ false }
     ensures answer { IfOk result (λ end. IsAnswer text.now end.refusal) }
+    ensures counts { IfOk result (λ end. is_none end.refusal ≡ (end.counts.errors == 0)) }
     ensures quiet { IsTrue form.now.quiet → writer.new ≡ writer.old }
     ensures write { W.is_marked writer.new ≡ is_write_end result }
     ensures faults { IfErr result IsReportFault }
 {
     let findings = findings_of(alloc, text)?;
-    let refusal = refusal_of(findings.as_slice());
-    let outline = Outline::of(alloc, text)?;
-    let input = Input::of_file(text, &outline);
-    let counts = print_findings(
-        alloc,
-        name,
-        input,
-        findings.as_slice(),
-        refusal,
-        form,
-        writer,
-    )?;
-    Ok(CheckEnd { counts, refusal })
+    let findings = findings.as_slice();
+    let end = CheckEnd {
+        counts: counts_of(findings),
+        refusal: refusal_of(findings),
+    };
+    if !form.quiet {
+        print_file(alloc, name, text, findings, &end, form, writer)?;
+    }
+    Ok(end)
 }
 
 /// Returns the refusal of a file with these findings, or `None` if the file is a configuration.

@@ -1,10 +1,12 @@
 //! The engine of `bendrika cycles`: from the bytes of request lines to their findings.
-ghost use Rattle.std.specs.Prelude.{◌≡◌, false, IsTrue, IfErr};
+ghost use Rattle.std.specs.Prelude.{◌≡◌, ◌<◌, ◌^◌, false, length, IsTrue, IfOk, IfErr, IfSome};
+ghost use Rattle.std.specs.Str.Lines.{lines};
 ghost use Rattle.vme_report.specs.Ends.{IsReportFault, is_write_end};
 ghost use Rattle.vme_engines.specs.Faults.{IsCyclesFault, ReadsWithin, is_read_failure, is_write_failure};
+ghost use Rattle.vme_check.specs.Requests.{AreCountsOf};
 
-use crate::findings::findings_of_lines;
-use crate::report::{Counts, Form, Input, print_findings};
+use crate::findings::counts_of_lines;
+use crate::report::{Counts, Form, print_lines};
 use std::alloc::Global;
 use vme_engines::{INPUT_LIMIT, ProgramFault, read_input};
 use vme_io::{Sink, Source};
@@ -29,6 +31,8 @@ pub fn request_check_engine<R: Source, W: Sink>(
 ) -> Result<Counts, ProgramFault>
     requires reader_unmarked { R.is_marked reader.old ≡ false }
     requires writer_unmarked { W.is_marked writer.old ≡ false }
+    ensures counts { IfSome (R.remaining reader.old) (λ input.
+        IfOk result (λ counts. AreCountsOf (lines input) counts)) }
     ensures quiet { IsTrue form.now.quiet → writer.new ≡ writer.old }
     ensures read { R.is_marked reader.new ≡ is_read_failure result }
     ensures limit { ReadsWithin INPUT_LIMIT (R.remaining reader.old) (R.remaining reader.new) result }
@@ -48,12 +52,16 @@ fn check_lines<W: Sink>(
     text: &[u8],
     writer: &mut W,
 ) -> Result<Counts, RunFault>
+    requires within { length text.now < 2 ^ 32 }
     requires unmarked { W.is_marked writer.old ≡ false }
+    ensures counts { IfOk result (λ counts. AreCountsOf (lines text.now) counts) }
     ensures quiet { IsTrue form.now.quiet → writer.new ≡ writer.old }
     ensures write { W.is_marked writer.new ≡ is_write_end result }
     ensures faults { IfErr result IsReportFault }
 {
-    let findings = findings_of_lines(alloc, text)?;
-    let input = Input::of_lines(text);
-    print_findings(alloc, name, input, findings.as_slice(), None, form, writer)
+    let counts = counts_of_lines(text);
+    if !form.quiet {
+        print_lines(alloc, name, text, counts, form, writer)?;
+    }
+    Ok(counts)
 }

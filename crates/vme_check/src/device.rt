@@ -2,8 +2,8 @@
 use std::io::{Error, Read};
 use vme_io::{Failed, Source};
 
-/// A reader of std as a source of bytes. It keeps the error of the read that failed. As a source it
-/// has no byte model.
+/// A reader of std as a source of bytes. It keeps the error of the read that failed. Its bytes are
+/// those of the reader: it has a byte model if and only if the reader has one.
 #[derive(Drop)]
 pub struct InputReader<T> {
     inner: T,
@@ -34,26 +34,14 @@ impl<T> InputReader<T> {
 }
 
 impl<T: Read> Source for InputReader<T> {
-    ghost use Rattle.std.specs.Prelude.{◌≡◌, ◌<◌, ◌≤◌, None, true, length, take, Ok, IfOk, OnOk, OnErr};
-    ghost use Rattle.std.specs.Io.KnownBytes.{Keeps, Consumes, IsAtEnd};
     ghost use Rattle.vme_check.specs.Devices.{has_failed, inner_of};
 
     ghost is_marked = { has_failed };
 
-    ghost remaining = { λ _. None };
+    ghost remaining = { λ reader. T.remaining (inner_of reader) };
 
-    /// Reads once from the inner reader into `buffer`, and returns the number of bytes read.
-    fn read(&mut self, buffer: &mut [u8]) -> Result<usize, Failed>
-        requires { 0 < length buffer.old }
-        ensures count { IfOk result (λ n. n ≤ length buffer.new) }
-        ensures unmarked { OnOk result (has_failed self.new ≡ has_failed self.old) }
-        ensures marked { OnErr result (has_failed self.new ≡ true) }
-        ensures inner { IfOk result (λ n.
-            Consumes (T.remaining (inner_of self.old)) (T.remaining (inner_of self.new)) (take n buffer.new)) }
-        ensures inner_end { result ≡ Ok 0 → IsAtEnd (T.remaining (inner_of self.new)) }
-        ensures inner_kept { OnErr result
-            (Keeps (T.remaining (inner_of self.old)) (T.remaining (inner_of self.new))) }
-    {
+    /// Reads once from the inner reader.
+    fn read(&mut self, buffer: &mut [u8]) -> Result<usize, Failed> {
         match self.inner.read(buffer) {
             Ok(count) => Ok(count),
             Err(error) => {

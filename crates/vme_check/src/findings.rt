@@ -1,23 +1,26 @@
 //! The findings of a file, its refusal first, and of request lines.
-ghost use Rattle.std.specs.Prelude.{◌≡◌, ◌++◌, List, Some, IfOk, IsUtf8};
+ghost use Rattle.std.specs.Prelude.{◌≡◌, Some, IfOk, IsUtf8};
+ghost use Rattle.std.specs.List.{count_by};
 ghost use Rattle.toml.specs.Errors.{IsMemory};
 ghost use Rattle.toml.specs.Parse.{parse_document};
 ghost use Rattle.toml.specs.View.{table_view};
-ghost use Rattle.vme_faults.specs.declared.finding.Finding.{Finding};
 ghost use Rattle.vme_faults.specs.Causes.{refusal_of};
-ghost use Rattle.vme_check.specs.Verdicts.{first_refusal, AreFindingsOf};
+ghost use Rattle.vme_check.specs.Verdicts.{first_refusal, is_error, AreFindingsOf};
 
 mod laws;
 mod lines;
 mod request_line;
 
+use crate::report::Counts;
 pub use laws::no_file_is_both;
-pub(crate) use lines::findings_of_lines;
+pub(crate) use lines::{counts_of_lines, finding_from, line_after};
 pub use request_line::{RequestRefusal, request_finding};
 use std::alloc::{AllocError, Global};
 use toml::Table;
 use toml::de::Error;
-use vme_faults::{Cause, DocumentCause, Finding, faults_of, find, warnings_of};
+use vme_faults::{
+    Cause, DocumentCause, Finding, Severity, TomlError, faults_of, find, warnings_of,
+};
 use vme_positions::Place;
 use vme_script::{Config, ConfigFault};
 
@@ -40,6 +43,29 @@ pub fn findings_of(alloc: Global, text: &[u8]) -> Result<Vec<Finding>, AllocErro
             let findings = not_toml(alloc, error)?;
             Ok(findings)
         }
+    }
+}
+
+/// Returns how many errors and warnings there are among findings.
+pub(crate) fn counts_of(findings: &[Finding]) -> Counts
+    ensures { result.errors ≡ count_by is_error findings.now }
+{
+    Counts {
+        errors: findings.iter().filter(|finding| is_fault(*finding)).count(),
+        warnings: findings
+            .iter()
+            .filter(|finding| !is_fault(*finding))
+            .count(),
+    }
+}
+
+/// Whether a finding is an error.
+fn is_fault(finding: &Finding) -> bool
+    ensures { result ≡ is_error finding.now }
+{
+    match finding.cause.severity() {
+        Severity::Error => true,
+        Severity::Warning => false,
     }
 }
 
@@ -69,7 +95,9 @@ fn not_toml(alloc: Global, error: Error) -> Result<Vec<Finding>, AllocError>
         to: span.end,
     };
     let mut findings = Vec::new(alloc);
-    let cause = Cause::Document(DocumentCause::NotToml { error });
+    let cause = Cause::Document(DocumentCause::NotToml {
+        error: TomlError::of(&error),
+    });
     find(&mut findings, cause, place)?;
     Ok(findings)
 }
@@ -78,11 +106,10 @@ fn not_toml(alloc: Global, error: Error) -> Result<Vec<Finding>, AllocError>
 fn errors_of(alloc: Global, table: &Table, fault: ConfigFault) -> Result<Vec<Finding>, AllocError>
     ensures { IfOk result (λ findings. first_refusal findings.items ≡ Some fault) }
 {
-    let found = faults_of(alloc, table)?;
-    let first = first_finding(&found, fault);
-    let mut findings = Vec::with_capacity(alloc, found.len())?;
-    findings.push(first)?;
-    push_others(&found, first, &mut findings)?;
+    let mut findings = faults_of(alloc, table)?;
+    let first = first_finding(findings.as_slice(), fault);
+    findings.retain(|finding| *finding != first);
+    findings.insert(0, first)?;
     Ok(findings)
 }
 
@@ -99,21 +126,4 @@ fn first_finding(found: &[Finding], fault: ConfigFault) -> Finding
         cause: Cause::Refused(fault),
         place: Place::File,
     }
-}
-
-/// Appends those of the findings that differ from the first.
-fn push_others(
-    found: &[Finding],
-    first: Finding,
-    findings: &mut Vec<Finding>,
-) -> Result<(), AllocError>
-    ensures { IfOk result (λ _. (more : List Finding) ×
-        (findings.new.items ≡ findings.old.items ++ more)) }
-{
-    for finding in found {
-        if *finding != first {
-            find(findings, finding.cause, finding.place)?;
-        }
-    }
-    Ok(())
 }

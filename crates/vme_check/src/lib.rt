@@ -17,10 +17,10 @@ pub use check::{CheckEnd, check_engine};
 pub use cycles::request_check_engine;
 pub use device::InputReader;
 pub use findings::{RequestRefusal, findings_of, no_file_is_both, request_finding};
-pub use report::{Counts, Form, shown_name, summary};
+pub use report::{Counts, Form, shown_name, summary, unread};
 pub use vme_faults::{
     BoardCause, BoardName, Cause, CycleCause, DataLength, DocumentCause, FileWarning, Finding,
-    Lack, LineCause, LineForm, LineWarning, MailboxCause, ScheduleCause, Severity, ValueKind,
-    the_first_is_reported,
+    Lack, LineCause, LineForm, LineWarning, MailboxCause, ScheduleCause, Severity, TomlError,
+    ValueKind, the_first_is_reported,
 };
 pub use vme_positions::{Key, Place, TableName};

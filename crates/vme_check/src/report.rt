@@ -13,7 +13,7 @@ pub(crate) use context::Context;
 pub(crate) use form::push_count;
 pub use form::{Counts, Form, summary};
 pub(crate) use located::{Input, Located};
-pub(crate) use print::print_findings;
+pub(crate) use print::{print_file, print_lines};
 use std::alloc::{AllocError, Global};
 use std::fmt::Write;
 use vme_explain::write_escaped;
@@ -93,7 +93,6 @@ impl<'a> Report<'a> {
     pub(crate) fn tail(
         &self,
         counts: Counts,
-        left_out: usize,
         refusal: Option<ConfigFault>,
     ) -> Result<String, AllocError> {
         let mut to = String::new(self.alloc);
@@ -102,6 +101,7 @@ impl<'a> Report<'a> {
             return Ok(to);
         }
         let name = self.shown_name.as_str();
+        let left_out = self.form.left_out(counts);
         match left_out {
             0 => {}
             1 => write!(to, "{name}: 1 more finding\n")?,
@@ -134,7 +134,22 @@ impl<'a> Report<'a> {
     }
 }
 
-/// Returns a name with each ASCII control character as `\xHH`.
+/// Returns the JSON object of an input that cannot be read, with the reason, as one line.
+///
+/// # Errors
+///
+/// An allocation failed.
+pub fn unread(alloc: Global, name: &str, why: &str) -> Result<String, AllocError> {
+    let mut to = String::new(alloc);
+    to.push_str("{\"file\":\"")?;
+    write_escaped(name, &mut to)?;
+    to.push_str("\",\"fault\":\"")?;
+    write_escaped(why, &mut to)?;
+    to.push_str("\"}\n")?;
+    Ok(to)
+}
+
+/// Returns a name or a word with each ASCII control character as `\xHH`.
 ///
 /// # Errors
 ///

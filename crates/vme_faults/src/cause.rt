@@ -9,7 +9,7 @@ mod place;
 mod warning;
 
 pub use cycle::CycleCause;
-pub use document::{DocumentCause, ValueKind};
+pub use document::{DocumentCause, TomlError, ValueKind};
 pub use line::{DataLength, LineCause, LineForm};
 use vme_positions::Place;
 use vme_script::ConfigFault;

@@ -117,13 +117,14 @@ fn read_board<'a>(
     }
 }
 
-/// Finds the fault of the number of boards: none, or more than 21.
+/// Finds the fault of the number of boards: none, or more than 21. A file with tables of an unknown
+/// name is not also one without a board.
 fn find_count(
     file: &Section<'_>,
     boards: usize,
     found: &mut Vec<Finding>,
 ) -> Result<(), AllocError> {
-    if boards == 0 {
+    if boards == 0 && !file.has_unknown_tables() {
         let place = match file.value(Key::Board) {
             Some(_) => file.value_place(Key::Board),
             None => Place::File,

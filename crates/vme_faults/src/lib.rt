@@ -24,7 +24,7 @@ mod words;
 
 pub use cause::{
     BoardCause, BoardName, Cause, CycleCause, DataLength, DocumentCause, FileWarning, Lack,
-    LineCause, LineForm, LineWarning, MailboxCause, ScheduleCause, Severity, ValueKind,
+    LineCause, LineForm, LineWarning, MailboxCause, ScheduleCause, Severity, TomlError, ValueKind,
 };
 pub use collect::faults_of;
 pub use cycle::{faulty_word, request_cause};

@@ -77,6 +77,19 @@ impl<'a> Section<'a> {
         Ok(())
     }
 
+    /// Whether an unknown key has tables.
+    pub(crate) fn has_unknown_tables(&self) -> bool {
+        for (name, value) in self.values {
+            if let Value::Array(items) = value
+                && let Some(Value::Table(_)) = items.first()
+                && Key::named(self.table, name.as_str()).is_none()
+            {
+                return true;
+            }
+        }
+        false
+    }
+
     /// The value of a required key. If the key is absent, that is found.
     fn required(
         &self,

@@ -1,49 +1,47 @@
 //! The findings of request lines.
-ghost use Rattle.std.specs.Prelude.{◌≡◌, ◌++◌, IfOk, OnOk, option_to_list};
+ghost use Rattle.std.specs.Prelude.{◌≡◌, ◌<◌, ◌^◌, length, if◌then◌else◌, is_some};
 ghost use Rattle.std.specs.Str.Lines.{lines};
 ghost use Rattle.vme_engines.specs.Lines.{request_of};
-ghost use Rattle.vme_check.specs.Requests.{refusals_by, refusals_of, request_refusal};
+ghost use Rattle.vme_check.specs.Requests.{request_refusal, is_warned, AreCountsOf};
 
 use crate::findings::request_finding;
+use crate::report::Counts;
 use memchr::memchr;
-use std::alloc::{AllocError, Global};
 use vme_faults::Finding;
 use vme_lexer::Lines;
 use vme_positions::Place;
 
-/// Returns the findings of the request lines of a text, with their places in the text.
-///
-/// # Errors
-///
-/// An allocation failed.
-pub(crate) fn findings_of_lines(alloc: Global, text: &[u8]) -> Result<Vec<Finding>, AllocError>
-    ensures { IfOk result (λ findings. refusals_by findings.items ≡ refusals_of (lines text.now)) }
+/// Returns how many errors and warnings there are among the request lines of a text.
+pub(crate) fn counts_of_lines(text: &[u8]) -> Counts
+    requires { length text.now < 2 ^ 32 }
+    ensures { AreCountsOf (lines text.now) result }
 {
-    let mut findings = Vec::new(alloc);
-    let mut start = 0usize;
+    let mut counts = Counts::NONE;
     for line in Lines::new(text) {
-        push_line(start, line, &mut findings)?;
-        start = line_after(text, start);
+        counts = counts.and(counts_of_line(line));
     }
-    Ok(findings)
+    counts
 }
 
-/// Appends the finding of a line that begins at `start`, if there is one.
-#[tactic(auto, using(crate::proofs::RequestRefusals::one_more))]
-fn push_line(start: usize, line: &[u8], findings: &mut Vec<Finding>) -> Result<(), AllocError>
-    ensures { OnOk result (refusals_by findings.new.items
-        ≡ refusals_by findings.old.items ++ option_to_list (request_refusal (request_of line.now))) }
+/// Returns the counts of a request line alone.
+fn counts_of_line(line: &[u8]) -> Counts
+    ensures errors { result.errors ≡ (if is_some (request_refusal (request_of line.now)) then 1 else 0) }
+    ensures warnings { result.warnings ≡ (if is_warned (request_of line.now) then 1 else 0) }
 {
-    if let Some(finding) = request_finding(line, 1) {
-        findings.push(at(start, finding))?;
+    match request_finding(line, 1) {
+        Some(finding) => Counts::of(finding.cause),
+        None => Counts::NONE,
     }
-    Ok(())
 }
 
-/// The finding of a line that begins at `start`, with its place in the text.
-fn at(start: usize, finding: Finding) -> Finding
-    ensures { result.cause ≡ finding.cause }
-{
+/// Returns the finding of a line that begins at `start`, if there is one, with its place in the
+/// text.
+pub(crate) fn finding_from(start: usize, line: &[u8]) -> Option<Finding> {
+    Some(at(start, request_finding(line, 1)?))
+}
+
+/// Moves the place of a finding of a line that begins at `start` into the text.
+fn at(start: usize, finding: Finding) -> Finding {
     let place = match finding.place {
         Place::Word { from, to, .. } => Place::Bytes {
             from: start.saturating_add(from),
@@ -57,8 +55,8 @@ fn at(start: usize, finding: Finding) -> Finding
     }
 }
 
-/// The start of the line after the one that begins at `start`.
-fn line_after(text: &[u8], start: usize) -> usize {
+/// Returns the start of the line after the one that begins at `start`.
+pub(crate) fn line_after(text: &[u8], start: usize) -> usize {
     let rest = text.get(start..).unwrap_or(&[]);
     match memchr(b'\n', rest) {
         Some(length) => start.saturating_add(length).saturating_add(1),

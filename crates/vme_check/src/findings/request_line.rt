@@ -1,12 +1,12 @@
 //! The finding of a request line: its refusal by `vme cycles`, or a warning.
-ghost use Rattle.std.specs.Prelude.{◌≡◌, true, Some, is_none, Ok, IfSome};
+ghost use Rattle.std.specs.Prelude.{◌≡◌, true, false, Some, is_some, is_none, Ok, IfSome};
 ghost use Rattle.std.specs.Option.{option_and_then, option_map_or};
 ghost use Rattle.vme_cycle.specs.Lawful.{first_refusal};
 ghost use Rattle.vme_engines.specs.Lines.{request_of};
 ghost use Rattle.vme_faults.specs.Causes.{line_fault};
 ghost use Rattle.vme_faults.specs.Severities.{is_warning};
 ghost use Rattle.vme_positions.specs.declared.place.Place.TheVariants as places;
-ghost use Rattle.vme_check.specs.Requests.{refusal_by, request_refusal, IsOnLine};
+ghost use Rattle.vme_check.specs.Requests.{refusal_by, request_refusal, misses_board, is_warned, IsOnLine};
 
 use vme_am::Space;
 use vme_cycle::{CycleFault, Plan, Request};
@@ -35,6 +35,7 @@ pub fn request_finding(line: &[u8], number: usize) -> Option<Finding>
         ≡ request_refusal (request_of line.now) }
     ensures severity { option_map_or is_warning result true
         ≡ is_none (request_refusal (request_of line.now)) }
+    ensures warned { option_map_or is_warning result false ≡ is_warned (request_of line.now) }
     ensures place { IfSome result (λ finding. IsOnLine number finding.place) }
 {
     match request_of(line) {
@@ -109,17 +110,12 @@ fn cycle_finding(line: &[u8], number: usize, request: &Request) -> Option<Findin
         ≡ request_refusal (Ok (Some request.now)) }
     ensures severity { option_map_or is_warning result true
         ≡ is_none (request_refusal (Ok (Some request.now))) }
+    ensures warned { option_map_or is_warning result false ≡ is_warned (Ok (Some request.now)) }
     ensures place { IfSome result (λ finding. IsOnLine number finding.place) }
 {
     match Plan::of(request) {
         Ok(plan) => {
-            let word = if plan.am().space() != Space::A32 {
-                1
-            } else if plan.addr() >= BOARD_SIZE {
-                2
-            } else {
-                return None;
-            };
+            let word = missing_word(&plan)?;
             Some(finding_at(number, span_of(line, word), Cause::RequestBoard))
         }
         Err(fault) => {
@@ -127,5 +123,16 @@ fn cycle_finding(line: &[u8], number: usize, request: &Request) -> Option<Findin
             let span = span_of(line, faulty_word(cause));
             Some(finding_at(number, span, Cause::RequestCycle(cause)))
         }
+    }
+}
+
+/// The number of the word of a lawful line that does not select the board: its code or its address.
+fn missing_word(plan: &Plan<'_>) -> Option<usize>
+    ensures { is_some result ≡ misses_board (Ok plan.now) }
+{
+    match plan.am().space() {
+        Space::A32 if plan.addr() < BOARD_SIZE => None,
+        Space::A32 => Some(2),
+        _ => Some(1),
     }
 }

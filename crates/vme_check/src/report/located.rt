@@ -1,4 +1,5 @@
 //! Findings with the bytes where they are.
+use crate::report::Form;
 use std::alloc::{AllocError, Global};
 use vme_faults::{Cause, Finding, Severity};
 use vme_positions::{Outline, Place, Span};
@@ -57,8 +58,17 @@ impl<'a> Input<'a> {
         }
     }
 
-    /// The findings in the order of their places; at one place in the order of their codes. With
-    /// `no_warnings` only errors.
+    /// A finding with the bytes of its place.
+    pub(crate) fn located(&self, finding: Finding, is_first: bool) -> Located {
+        Located {
+            finding,
+            span: self.span(finding.place),
+            is_first,
+        }
+    }
+
+    /// Those of the findings that are printed, in the order of their places; at one place in the
+    /// order of their codes. The first finding is kept, as the last if it is past the limit.
     ///
     /// # Errors
     ///
@@ -67,20 +77,32 @@ impl<'a> Input<'a> {
         &self,
         alloc: Global,
         findings: &[Finding],
-        no_warnings: bool,
+        form: &Form,
     ) -> Result<Vec<Located>, AllocError> {
-        let mut located = Vec::with_capacity(alloc, findings.len())?;
+        let most = form.most();
+        let full = most.saturating_mul(2);
+        let mut located = Vec::new(alloc);
         for (at, finding) in findings.iter().enumerate() {
-            let one = Located {
-                finding: *finding,
-                span: self.span(finding.place),
-                is_first: at == 0,
-            };
-            if !no_warnings || one.is_error() {
-                located.push(one)?;
+            if form.shows(finding.cause) {
+                located.push(self.located(*finding, at == 0))?;
+            }
+            if full <= located.len() {
+                keep(&mut located, most)?;
             }
         }
-        located.sort_by_key(|one: &Located| (one.span.from, one.finding.cause.code()))?;
+        keep(&mut located, most)?;
         Ok(located)
     }
+}
+
+/// Sorts findings, and keeps the first ones: at most `most`, and the first finding of the input.
+fn keep(located: &mut Vec<Located>, most: usize) -> Result<(), AllocError> {
+    located.sort_by_key(|one: &Located| (one.span.from, one.finding.cause.code()))?;
+    let first = located.iter().skip(most).find(|one| one.is_first).copied();
+    located.truncate(most);
+    if let Some(first) = first {
+        located.truncate(most.saturating_sub(1));
+        located.push(first)?;
+    }
+    Ok(())
 }

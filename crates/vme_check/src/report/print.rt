@@ -1,88 +1,121 @@
 //! The findings of an input, printed in pieces.
-ghost use Rattle.std.specs.Prelude.{◌≡◌, ◌≤◌, false, true, IsTrue, IfErr};
+ghost use Rattle.std.specs.Prelude.{◌≡◌, false, IfErr};
 ghost use Rattle.vme_report.specs.Ends.{IsReportFault, is_write_end};
 
+use crate::check::CheckEnd;
+use crate::findings::{finding_from, line_after};
 use crate::report::{Counts, Form, Input, Located, Report};
 use std::alloc::{AllocError, Global};
-use vme_faults::{Finding, Severity};
+use vme_faults::Finding;
 use vme_io::{Sink, WRITE_SIZE, flush_if_full, write_all};
+use vme_lexer::Lines;
+use vme_positions::Outline;
 use vme_report::RunFault;
 use vme_script::ConfigFault;
 
-/// Prints the findings of an input as the form says, and then its refusal. Returns the counts of
-/// all its findings. The text is collected in a buffer and written in large pieces.
-pub(crate) fn print_findings<W: Sink>(
+/// Prints the findings of a configuration file as the form says, and then its refusal.
+pub(crate) fn print_file<W: Sink>(
     alloc: Global,
     name: &str,
-    input: Input<'_>,
+    text: &[u8],
     findings: &[Finding],
-    refusal: Option<ConfigFault>,
+    end: &CheckEnd,
     form: &Form,
-    writer: &mut W,
-) -> Result<Counts, RunFault>
-    requires unmarked { W.is_marked writer.old ≡ false }
-    ensures quiet { IsTrue form.now.quiet → writer.new ≡ writer.old }
-    ensures write { W.is_marked writer.new ≡ is_write_end result }
-    ensures faults { IfErr result IsReportFault }
-{
-    let counts = counts_of(findings);
-    if form.quiet {
-        return Ok(counts);
-    }
-    let mut located = input.locate(alloc, findings, form.no_warnings)?;
-    let left_out = cut(&mut located, form.limit)?;
-    let mut report = Report::new(alloc, name, input, form)?;
-    let mut text = Vec::with_capacity(alloc, WRITE_SIZE)?;
-    for one in located.as_slice() {
-        gather(&mut report, one, &mut text, writer)?;
-    }
-    let tail = report.tail(counts, left_out, refusal)?;
-    text.extend_from_slice(tail.as_bytes())?;
-    write_all(writer, text.as_slice())?;
-    Ok(counts)
-}
-
-/// Appends the text of a finding to the buffer, and writes the buffer if it is full.
-fn gather<W: Sink>(
-    report: &mut Report<'_>,
-    one: &Located,
-    text: &mut Vec<u8>,
     writer: &mut W,
 ) -> Result<(), RunFault>
     requires unmarked { W.is_marked writer.old ≡ false }
     ensures write { W.is_marked writer.new ≡ is_write_end result }
     ensures faults { IfErr result IsReportFault }
 {
-    let printed = report.finding(one)?;
-    text.extend_from_slice(printed.as_bytes())?;
-    flush_if_full(text, writer)?;
-    Ok(())
+    let outline = Outline::of(alloc, text)?;
+    let input = Input::of_file(text, &outline);
+    let located = input.locate(alloc, findings, form)?;
+    let mut printer = Printer::new(alloc, name, input, form)?;
+    for one in located.as_slice() {
+        printer.print(one, writer)?;
+    }
+    printer.end(end.counts, end.refusal, writer)
 }
 
-/// How many errors and warnings there are.
-fn counts_of(findings: &[Finding]) -> Counts {
-    let mut counts = Counts::NONE;
-    for finding in findings {
-        match finding.cause.severity() {
-            Severity::Error => counts.errors = counts.errors.saturating_add(1),
-            Severity::Warning => counts.warnings = counts.warnings.saturating_add(1),
+/// Prints the findings of request lines as the form says, one by one.
+pub(crate) fn print_lines<W: Sink>(
+    alloc: Global,
+    name: &str,
+    text: &[u8],
+    counts: Counts,
+    form: &Form,
+    writer: &mut W,
+) -> Result<(), RunFault>
+    requires unmarked { W.is_marked writer.old ≡ false }
+    ensures write { W.is_marked writer.new ≡ is_write_end result }
+    ensures faults { IfErr result IsReportFault }
+{
+    let input = Input::of_lines(text);
+    let mut printer = Printer::new(alloc, name, input, form)?;
+    let mut left = form.most();
+    let mut start = 0usize;
+    for line in Lines::new(text) {
+        if left == 0 {
+            break;
         }
+        if let Some(finding) = finding_from(start, line)
+            && form.shows(finding.cause)
+        {
+            printer.print(&input.located(finding, false), writer)?;
+            left -= 1;
+        }
+        start = line_after(text, start);
     }
-    counts
+    printer.end(counts, None, writer)
 }
 
-/// Removes the findings past the limit, and returns how many. The finding with the refusal of the
-/// file stays, as the last if it was past the limit. A limit of 0 removes none.
-fn cut(located: &mut Vec<Located>, limit: usize) -> Result<usize, AllocError> {
-    let removed = located.len().saturating_sub(limit);
-    if limit == 0 || removed == 0 {
-        return Ok(0);
+/// The report of an input, which is collected in a buffer and written in large pieces.
+#[derive(Drop)]
+struct Printer<'a> {
+    report: Report<'a>,
+    text: Vec<u8>,
+}
+
+impl<'a> Printer<'a> {
+    /// A printer of the findings of an input with this name.
+    fn new(
+        alloc: Global,
+        name: &'a str,
+        input: Input<'a>,
+        form: &Form,
+    ) -> Result<Printer<'a>, AllocError> {
+        Ok(Printer {
+            report: Report::new(alloc, name, input, form)?,
+            text: Vec::with_capacity(alloc, WRITE_SIZE)?,
+        })
     }
-    let first = located.iter().skip(limit).find(|one| one.is_first).copied();
-    located.truncate(limit);
-    if let Some(first) = first {
-        located.truncate(limit - 1);
-        located.push(first)?;
+
+    /// Appends the text of a finding to the buffer, and writes the buffer if it is full.
+    fn print<W: Sink>(&mut self, one: &Located, writer: &mut W) -> Result<(), RunFault>
+        requires unmarked { W.is_marked writer.old ≡ false }
+        ensures write { W.is_marked writer.new ≡ is_write_end result }
+        ensures faults { IfErr result IsReportFault }
+    {
+        let printed = self.report.finding(one)?;
+        self.text.extend_from_slice(printed.as_bytes())?;
+        flush_if_full(&mut self.text, writer)?;
+        Ok(())
     }
-    Ok(removed)
+
+    /// Writes the rest of the buffer, and what follows the findings.
+    fn end<W: Sink>(
+        &mut self,
+        counts: Counts,
+        refusal: Option<ConfigFault>,
+        writer: &mut W,
+    ) -> Result<(), RunFault>
+        requires unmarked { W.is_marked writer.old ≡ false }
+        ensures write { W.is_marked writer.new ≡ is_write_end result }
+        ensures faults { IfErr result IsReportFault }
+    {
+        let tail = self.report.tail(counts, refusal)?;
+        self.text.extend_from_slice(tail.as_bytes())?;
+        write_all(writer, self.text.as_slice())?;
+        Ok(())
+    }
 }

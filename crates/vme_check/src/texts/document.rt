@@ -4,8 +4,7 @@ use crate::texts::help::{Help, no_help, says, similar_key, unknown_key};
 use crate::texts::message::{Message, Value, plain, with, with_three, with_two};
 use crate::texts::names::{keys_of, number_of, table_name};
 use memchr::memmem;
-use toml::de::Error;
-use vme_faults::{DocumentCause, ValueKind};
+use vme_faults::{DocumentCause, TomlError, ValueKind};
 use vme_positions::{Key, Place, Span, TableName};
 
 /// The message of a cause.
@@ -79,9 +78,9 @@ fn not_table(subject: Value, found: ValueKind, more: u64) -> Message {
 
 /// The message of an error of TOML at a word. The one about an invalid value lists all kinds of
 /// values, so a message that quotes the word stands in its place.
-fn toml_message(error: Error, word: &[u8]) -> Message {
-    if !error.message().starts_with("invalid value") {
-        return with("not TOML: {}", Value::Toml(error));
+fn toml_message(error: TomlError, word: &[u8]) -> Message {
+    if !error.is_value() {
+        return with("not TOML: {}", Value::Word(error.message()));
     }
     if word.is_empty() {
         return plain("not TOML: a value is missing here");
@@ -109,6 +108,9 @@ fn subject_of(place: Place) -> Value {
 /// The help of a cause.
 pub(crate) fn help_of(cause: DocumentCause, context: &Context<'_>) -> Help {
     match cause {
+        DocumentCause::NotToml { error } if error.is_value() && is_of_script(context.line) => {
+            says(plain("put the script in quotes: script = \"r 09 00000000 1\""))
+        }
         DocumentCause::NotToml { .. } => toml_help(context.word),
         DocumentCause::UnknownKey => key_help(table_of(context.place), context.word),
         DocumentCause::MissingKey { key } => unknown_key(key),
@@ -118,6 +120,14 @@ pub(crate) fn help_of(cause: DocumentCause, context: &Context<'_>) -> Help {
         DocumentCause::OutOfRange { .. }
         | DocumentCause::NotTable { .. }
         | DocumentCause::TooManyBoards { .. } => no_help(),
+    }
+}
+
+/// Whether a line up to a value has the key of a script.
+fn is_of_script(line: &[u8]) -> bool {
+    match line.trim_ascii().strip_suffix(b"=") {
+        Some(key) => key.trim_ascii() == b"script".as_slice(),
+        None => false,
     }
 }
 
@@ -198,10 +208,10 @@ pub(crate) fn note_offset(cause: DocumentCause, input: &Input<'_>, span: Span) -
     let DocumentCause::NotToml { error } = cause else {
         return None;
     };
-    if is_repeated_key(error) {
+    if error.is_repeated_key() {
         return Some(input.outline?.first_of_key(input.text, span)?.from);
     }
-    if span.from < input.text.len() || !error.message().starts_with("invalid string") {
+    if span.from < input.text.len() || !error.is_string() {
         return None;
     }
     let basic = memmem::rfind(input.text, b"\"\"\"");
@@ -216,16 +226,11 @@ pub(crate) fn note_offset(cause: DocumentCause, input: &Input<'_>, span: Span) -
 /// The text of the note of a cause.
 pub(crate) fn note_of(cause: DocumentCause) -> Message {
     match cause {
-        DocumentCause::NotToml { error } if is_repeated_key(error) => plain(
+        DocumentCause::NotToml { error } if error.is_repeated_key() => plain(
             "the key is first here",
         ),
         _ => plain("the string begins here"),
     }
-}
-
-/// Whether an error of TOML is that of a key which is there already.
-fn is_repeated_key(error: Error) -> bool {
-    error.message() == "duplicate key"
 }
 
 /// The table of a place.

@@ -189,6 +189,7 @@ pub(crate) fn help_of(cause: LineCause, context: &Context<'_>) -> Help {
         LineCause::BadCode => padded_help(word, 2),
         LineCause::BadAddress | LineCause::BadOffset => padded_help(word, ADDRESS_DIGITS),
         LineCause::OddDigits { digits } => padded_help(word, digits.saturating_add(1)),
+        LineCause::NoHexDigits => padded_help(word, even(without_prefix(word).len())),
         LineCause::TouchesMailbox { .. } => says(plain(
             "only put and take may access the bytes of a mailbox",
         )),
@@ -221,6 +222,11 @@ fn padded_help(word: &[u8], digits: usize) -> Help {
         return no_help();
     }
     says(with("write `{}`", Value::Padded(digits - bare.len())))
+}
+
+/// The number, or the next one if it is odd.
+fn even(number: usize) -> usize {
+    number.saturating_add(number % 2)
 }
 
 fn are_hex_digits(word: &[u8]) -> bool {

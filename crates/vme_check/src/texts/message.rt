@@ -3,7 +3,6 @@ use crate::report::push_count;
 use crate::texts::quote::{push_quoted, without_prefix, without_quotes, without_zeros};
 use std::alloc::AllocError;
 use std::fmt::Write;
-use toml::de::Error;
 
 /// A value in a message. The word is that of the file which the message is about.
 #[derive(Clone, Copy)]
@@ -30,8 +29,6 @@ pub(crate) enum Value {
     Word(&'static str),
     /// A word in backquotes.
     Key(&'static str),
-    /// The message of an error of TOML.
-    Toml(Error),
     /// The word, quoted.
     Quoted,
     /// The word without the quotes of a string of TOML, quoted.
@@ -117,7 +114,6 @@ fn push_value(value: Value, word: &[u8], to: &mut String) -> Result<(), AllocErr
         Value::Element(thing, number, key) => write!(to, "{thing} {number} of `{key}`"),
         Value::Word(text) => to.push_str(text),
         Value::Key(key) => write!(to, "`{key}`"),
-        Value::Toml(error) => to.push_str(error.message()),
         Value::Quoted => push_quoted(word, to),
         Value::QuotedText => push_quoted(without_quotes(word), to),
         Value::QuotedNumber => push_quoted(without_zeros(word), to),

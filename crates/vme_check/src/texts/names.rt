@@ -83,7 +83,8 @@ pub(crate) fn table_name(table: TableName) -> &'static str {
     }
 }
 
-/// Returns the command of one or two letters that is a word in small letters.
+/// Returns the command of one or two letters that a word is meant for: the word in small letters, or
+/// what other tools call the command.
 pub(crate) fn short_command(word: &[u8]) -> Option<&'static str> {
     for (capital, command) in [
         (&b"R"[..], "r"),
@@ -95,6 +96,12 @@ pub(crate) fn short_command(word: &[u8]) -> Option<&'static str> {
         (&b"LR"[..], "lr"),
         (&b"LW"[..], "lw"),
         (&b"LM"[..], "lm"),
+        (&b"RD"[..], "r"),
+        (&b"READ"[..], "r"),
+        (&b"WR"[..], "w"),
+        (&b"WRITE"[..], "w"),
+        (&b"RMW"[..], "m"),
+        (&b"MODIFY"[..], "m"),
     ] {
         if word.eq_ignore_ascii_case(capital) {
             return Some(command);

@@ -4,6 +4,7 @@ ghost use Rattle.vme_faults.specs.Causes.{document_refusal};
 
 use toml::Value;
 use toml::de::Error;
+use toml_parser::ErrorKind;
 use vme_positions::Key;
 use vme_script::ConfigFault;
 
@@ -41,11 +42,73 @@ impl ValueKind {
     }
 }
 
+/// What is wrong in a text that is not TOML. A `toml::de::Error` has 200 bytes, and each finding
+/// would have them.
+#[derive(Clone, Copy, Debug, PartialEq, Eq)]
+pub struct TomlError {
+    kind: ErrorKind,
+}
+
+/// The faults of a text that is not TOML, but the one that has no message of its own here.
+static KINDS: [ErrorKind; 17] = [
+    ErrorKind::Utf8,
+    ErrorKind::Key,
+    ErrorKind::MissingEquals,
+    ErrorKind::UnclosedTable,
+    ErrorKind::UnclosedArrayTable,
+    ErrorKind::EndOfLine,
+    ErrorKind::Array,
+    ErrorKind::InlineTable,
+    ErrorKind::String,
+    ErrorKind::Escape,
+    ErrorKind::Value,
+    ErrorKind::Underscore,
+    ErrorKind::Overflow,
+    ErrorKind::Datetime,
+    ErrorKind::DuplicateKey,
+    ErrorKind::Extend,
+    ErrorKind::Recursion,
+];
+
+impl TomlError {
+    /// Returns the fault with the message of an error.
+    pub fn of(error: &Error) -> TomlError {
+        for kind in &KINDS {
+            if kind.description() == error.message() {
+                return TomlError { kind: *kind };
+            }
+        }
+        TomlError {
+            kind: ErrorKind::Content,
+        }
+    }
+
+    /// Returns what is wrong, in words.
+    pub fn message(self) -> &'static str {
+        self.kind.description()
+    }
+
+    /// Returns whether a word is not a value.
+    pub fn is_value(self) -> bool {
+        self.kind == ErrorKind::Value
+    }
+
+    /// Returns whether a string is wrong, or has no end.
+    pub fn is_string(self) -> bool {
+        self.kind == ErrorKind::String
+    }
+
+    /// Returns whether a key is there already.
+    pub fn is_repeated_key(self) -> bool {
+        self.kind == ErrorKind::DuplicateKey
+    }
+}
+
 /// A fault of a file as a document: C6, C7, C11 and C4.
 #[derive(Clone, Copy, Debug, PartialEq, Eq)]
 pub enum DocumentCause {
     /// C6: the text is not TOML.
-    NotToml { error: Error },
+    NotToml { error: TomlError },
     /// C7: the table has no key of this name. The place is `Place::Unknown`.
     UnknownKey,
     /// C7: the table has no `key`, which is required. The place is the table.

@@ -1,5 +1,5 @@
 use Rattle.std.proofs.Common.{◌≡◌, false}
-use Rattle.vme_check.proofs.report.print.print_findings.Given as goal
+use Rattle.vme_check.proofs.report.print.print_file.Given as goal
 
 -- no write has failed
 abbrev pub invariant-loop-one : goal.invariant-loop-one
