@@ -1,22 +1,30 @@
 //! `bendrika check` and `bendrika cycles`.
 use crate::fault::{Fault, printed};
-use crate::input::{STANDARD_INPUT, STANDARD_INPUT_NAME, report};
+use crate::input::{Input, STANDARD_INPUT, input_of, name_of, report};
 use crate::status::Status;
 use clap::ArgMatches;
-use std::fs::File;
 use std::io;
-use vme_check::{CheckEnd, Counts, Form, InputReader, check_engine, request_check_engine, summary};
-use vme_engines::ProgramFault;
-use vme_io::{Io, Source};
+use vme_check::{Counts, Form, check_engine, request_check_engine, summary, unread};
+use vme_engines::{FILE_LIMIT, INPUT_LIMIT, ProgramFault};
+use vme_io::{Io, SliceSource};
 
 /// What was found in all inputs so far.
 #[derive(Drop)]
 struct Found {
     counts: Counts,
-    /// Whether some input is refused.
-    has_errors: bool,
+    /// Whether some input was read.
+    is_begun: bool,
     /// Whether some input could not be read.
     is_incomplete: bool,
+}
+
+impl Found {
+    /// Nothing yet.
+    const NOTHING: Found = Found {
+        counts: Counts::NONE,
+        is_begun: false,
+        is_incomplete: false,
+    };
 }
 
 /// The engine that checks an input.
@@ -29,11 +37,7 @@ enum Engine {
 /// Checks the configuration files that the words name.
 pub(crate) fn checked(rt: &HostRuntime, words: &ArgMatches<'_>) -> Result<Status, Fault> {
     let form = form_of(words);
-    let mut found = Found {
-        counts: Counts::NONE,
-        has_errors: false,
-        is_incomplete: false,
-    };
+    let mut found = Found::NOTHING;
     if let Some(paths) = words.get_strs("FILE") {
         for path in paths {
             check_one(rt, Engine::Files, path, &form, &mut found)?;
@@ -45,11 +49,7 @@ pub(crate) fn checked(rt: &HostRuntime, words: &ArgMatches<'_>) -> Result<Status
 /// Checks the request lines of a file or of standard input.
 pub(crate) fn requests_checked(rt: &HostRuntime, words: &ArgMatches<'_>) -> Result<Status, Fault> {
     let form = form_of(words);
-    let mut found = Found {
-        counts: Counts::NONE,
-        has_errors: false,
-        is_incomplete: false,
-    };
+    let mut found = Found::NOTHING;
     let path = words.get_str("FILE").unwrap_or(STANDARD_INPUT);
     check_one(rt, Engine::Requests, path, &form, &mut found)?;
     ended(rt, &form, &found)
@@ -73,67 +73,65 @@ fn check_one(
     form: &Form,
     found: &mut Found,
 ) -> Result<(), Fault> {
-    if path == STANDARD_INPUT {
-        return check_input(rt, engine, STANDARD_INPUT_NAME, form, rt.reader(), found);
-    }
-    match File::open(rt, path) {
-        Ok(file) => check_input(rt, engine, path, form, file, found),
-        Err(error) if error.kind() == io::ErrorKind::OutOfMemory => Err(Fault::Memory),
-        Err(error) => {
+    let name = name_of(path);
+    let input = match engine {
+        Engine::Files => input_of(rt, path, FILE_LIMIT)?,
+        Engine::Requests => input_of(rt, path, INPUT_LIMIT)?,
+    };
+    match input {
+        Input::Bytes(bytes) => {
+            let counts = check_bytes(rt, engine, name, form, bytes.as_slice())?;
+            found.counts = found.counts.and(counts);
+            found.is_begun = true;
+        }
+        Input::Unread(why) => {
             found.is_incomplete = true;
-            report(rt, path, &error)
+            report(rt, name, &why)?;
+            if form.json && !form.quiet {
+                let object = unread(rt.alloc(), name, why.as_str())?;
+                printed(rt, object.as_str())?;
+            }
         }
     }
+    Ok(())
 }
 
-/// Checks an opened input.
-fn check_input<T: io::Read + Drop>(
+/// Checks the bytes of an input, and prints what was found. Returns how many errors and warnings
+/// there are; a file or a line is refused exactly if there is an error.
+fn check_bytes(
     rt: &HostRuntime,
     engine: Engine,
     name: &str,
     form: &Form,
-    input: T,
-    found: &mut Found,
-) -> Result<(), Fault> {
-    let mut reader = InputReader::new(input);
+    bytes: &[u8],
+) -> Result<Counts, Fault> {
+    let mut source = SliceSource::new(bytes, usize::MAX, usize::MAX);
     let mut writer = Io::new(io::writer(rt));
     let end = match engine {
-        Engine::Files => check_engine(rt.alloc(), name, form, &mut reader, &mut writer).map(
-            |end: CheckEnd| (end.counts, end.refusal.is_some()),
-        ),
+        Engine::Files => match check_engine(rt.alloc(), name, form, &mut source, &mut writer) {
+            Ok(end) => Ok(end.counts),
+            Err(fault) => Err(fault),
+        },
         Engine::Requests => {
-            request_check_engine(rt.alloc(), name, form, &mut reader, &mut writer).map(
-                |counts: Counts| (counts, 0 < counts.errors),
-            )
+            request_check_engine(rt.alloc(), name, form, &mut source, &mut writer)
         }
     };
     match end {
-        Ok((counts, has_errors)) => {
-            found.counts = found.counts.and(counts);
-            found.has_errors |= has_errors;
-            Ok(())
-        }
-        Err(ProgramFault::Memory) => Err(Fault::Memory),
+        Ok(counts) => Ok(counts),
         Err(ProgramFault::Write) => Err(Fault::Write),
-        Err(fault) => {
-            found.is_incomplete = true;
-            match reader.failure() {
-                Some(error) => report(rt, name, error),
-                None => report(rt, name, &fault),
-            }
-        }
+        Err(_) => Err(Fault::Memory),
     }
 }
 
-/// Prints the last line, and returns the status.
+/// Prints the last line, unless no input was read, and returns the status.
 fn ended(rt: &HostRuntime, form: &Form, found: &Found) -> Result<Status, Fault> {
-    if !form.quiet && !form.json {
+    if found.is_begun && !form.quiet && !form.json {
         let line = summary(rt.alloc(), found.counts, form)?;
         printed(rt, line.as_str())?;
     }
     Ok(if found.is_incomplete {
         Status::Fault
-    } else if found.has_errors {
+    } else if 0 < found.counts.errors {
         Status::Errors
     } else {
         Status::Done

@@ -1,4 +1,6 @@
 //! The input that the words name, and why it is refused.
+ghost use Rattle.std.specs.Prelude.{◌<◌, ◌^◌};
+
 use crate::fault::Fault;
 use crate::status::Status;
 use std::fs::File;
@@ -22,43 +24,72 @@ pub(crate) fn name_of(path: &str) -> &str {
     }
 }
 
+/// An input: its bytes, or why it cannot be read.
+#[derive(Drop)]
+pub(crate) enum Input {
+    Bytes(Vec<u8>),
+    Unread(String),
+}
+
 /// Reads a configuration file, or standard input, to its end. `None` if it cannot be read, which is
 /// reported.
 pub(crate) fn read_file(rt: &HostRuntime, path: &str) -> Result<Option<Vec<u8>>, Fault> {
-    if path == STANDARD_INPUT {
-        return read_all(rt, STANDARD_INPUT_NAME, rt.reader());
-    }
-    read_named(rt, path)
+    let input = input_of(rt, path, FILE_LIMIT)?;
+    bytes_of(rt, name_of(path), input)
 }
 
 /// Reads a configuration file to its end. `None` if it cannot be read, which is reported.
 pub(crate) fn read_named(rt: &HostRuntime, path: &str) -> Result<Option<Vec<u8>>, Fault> {
-    match File::open(rt, path) {
-        Ok(file) => read_all(rt, path, file),
-        Err(error) if error.kind() == io::ErrorKind::OutOfMemory => Err(Fault::Memory),
-        Err(error) => {
-            report(rt, path, &error)?;
+    let input = file_at(rt, path, FILE_LIMIT)?;
+    bytes_of(rt, path, input)
+}
+
+/// The bytes of an input. `None` if it cannot be read, which is reported.
+fn bytes_of(rt: &HostRuntime, name: &str, input: Input) -> Result<Option<Vec<u8>>, Fault> {
+    match input {
+        Input::Bytes(bytes) => Ok(Some(bytes)),
+        Input::Unread(why) => {
+            report(rt, name, &why)?;
             Ok(None)
         }
     }
 }
 
-/// Reads an opened input to its end. `None` if it cannot be read, which is reported.
-fn read_all<T: io::Read + Drop>(
-    rt: &HostRuntime,
-    name: &str,
-    input: T,
-) -> Result<Option<Vec<u8>>, Fault> {
+/// Reads a file, or standard input, to its end or to one byte past the limit.
+pub(crate) fn input_of(rt: &HostRuntime, path: &str, limit: usize) -> Result<Input, Fault>
+    requires { limit < 2 ^ 32 }
+{
+    if path == STANDARD_INPUT {
+        return read_all(rt, rt.reader(), limit);
+    }
+    file_at(rt, path, limit)
+}
+
+/// Reads a file to its end or to one byte past the limit.
+fn file_at(rt: &HostRuntime, path: &str, limit: usize) -> Result<Input, Fault>
+    requires { limit < 2 ^ 32 }
+{
+    match File::open(rt, path) {
+        Ok(file) => read_all(rt, file, limit),
+        Err(error) if error.kind() == io::ErrorKind::OutOfMemory => Err(Fault::Memory),
+        Err(error) => Ok(Input::Unread(format!(in rt.alloc(); "{error}")?)),
+    }
+}
+
+/// Reads an opened input to its end or to one byte past the limit.
+fn read_all<T: io::Read + Drop>(rt: &HostRuntime, input: T, limit: usize) -> Result<Input, Fault>
+    requires { limit < 2 ^ 32 }
+{
     let mut reader = InputReader::new(input);
-    match read_input(rt.alloc(), &mut reader, FILE_LIMIT) {
-        Ok(file) => Ok(Some(file)),
+    match read_input(rt.alloc(), &mut reader, limit) {
+        Ok(bytes) => Ok(Input::Bytes(bytes)),
         Err(ProgramFault::Memory) => Err(Fault::Memory),
         Err(fault) => {
-            match reader.failure() {
-                Some(error) => report(rt, name, error)?,
-                None => report(rt, name, &fault)?,
-            }
-            Ok(None)
+            let why = match reader.failure() {
+                Some(error) => format!(in rt.alloc(); "{error}")?,
+                None => format!(in rt.alloc(); "{fault}")?,
+            };
+            Ok(Input::Unread(why))
         }
     }
 }
