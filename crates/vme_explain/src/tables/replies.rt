@@ -114,11 +114,12 @@ pub(crate) static REPLIES: [Text; 12] = [
         code: "berr",
         others: &[],
         title: "bus error",
-        cause: "BERR* was driven after C data: no board has the address (C is 0), the board lacks \
-            what the cycle needs, or the next datum lies past its end. The bytes that a read got \
-            before it follow. The refused datum changes nothing. On the local port: the bytes \
-            lie past the end of the board.",
-        sections: "2.3.3 (bus timer)",
+        cause: "BERR* was driven after C data: by the bus timer, since no board has the address \
+            (C is 0; IEEE 1014-1987, 2.3.3), or by the board, since it lacks what the cycle needs \
+            or the next datum lies past its end. The bytes that a read got before it follow. The \
+            refused datum changes nothing. On the local port: the bytes lie past the end of the \
+            board.",
+        sections: "",
         help: "Compare code, address and size with the board's `space`, `base`, `size`, `width`, \
             `uat`, `blt`, `rmw` and `supervisory`.",
         example: Some(Example {

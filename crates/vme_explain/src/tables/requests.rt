@@ -62,7 +62,7 @@ pub(crate) static REQUESTS: [Text; 9] = [
         others: &[],
         title: "read-modify-write with a program code",
         cause: "A program code can be read and written. A read-modify-write takes a data code or a \
-            short code.",
+            short code: a choice of this model.",
         sections: "",
         help: "Write 09 in place of 0a, 0d in place of 0e, 39 in place of 3a, 3d in place of 3e.",
         example: Some(Example {
