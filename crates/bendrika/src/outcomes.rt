@@ -75,11 +75,12 @@ pub(crate) fn listed(rt: &HostRuntime, words: &ArgMatches<'_>) -> Result<Status,
     let stated = conditions_of(rt.alloc(), words)?;
     let conditions = stated.conditions.as_slice();
     let (kept, form) = kept_of(rt.alloc(), words, conditions)?;
+    let kept = kept.as_ref();
     let asked = Asked {
         limit: words.get_one("limit").unwrap_or(1),
         form,
         quiet: words.get_flag("quiet"),
-        kept: kept.as_ref(),
+        kept,
         conditions,
     };
     match read_file(rt, path)? {
@@ -208,7 +209,8 @@ fn print_objects(rt: &HostRuntime, name: &str, text: &[u8]) -> Result<(), Fault>
 /// Runs the engine with one limit after another, and reports on standard error which were passed. A
 /// search that passes its limit has written nothing, and the next one begins anew.
 fn list_by_stages(rt: &HostRuntime, search: &Search<'_>) -> Result<bool, OutcomesFault> {
-    let limit = search.asked.limit;
+    let asked = search.asked;
+    let limit = asked.limit;
     for stage in STAGES {
         if limit <= stage {
             break;
