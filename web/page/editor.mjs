@@ -1,0 +1,158 @@
+// The editor: a textarea over a coloured copy of the lines that are in view.
+import { $, decoder, encoder, made } from './dom.mjs';
+
+const LINE = 20, PAD = 8, LONG = 5000, MOST_LINES = 50;
+const area = $('text');
+let starts = [0], value = '', marks = new Map(), loaded;
+
+// How the editor's owner hears of a change and of another place of the cursor.
+export const editor = { changed() {}, placed() {} };
+
+export const text = () => value;
+// The bytes of the input: those that were loaded until the text is edited, since a textarea has no CR and no byte but UTF-8.
+export const bytes = () => loaded ?? encoder.encode(value);
+export const lineCount = () => starts.length;
+export const lineText = (line) => value.slice(starts[line - 1], line < starts.length ? starts[line] - 1 : value.length);
+
+function index() {
+  value = area.value;
+  starts = [0];
+  for (let at = value.indexOf('\n'); at >= 0; at = value.indexOf('\n', at + 1)) starts.push(at + 1);
+}
+
+// The line of an offset, by halving.
+function lineAt(offset) {
+  let low = 0, high = starts.length - 1;
+  while (low < high) {
+    const middle = (low + high + 1) >> 1;
+    if (starts[middle] <= offset) low = middle;
+    else high = middle - 1;
+  }
+  return low + 1;
+}
+
+// The offset of a column, which counts characters.
+const offsetAt = (line, column) => (line > starts.length ? value.length
+  : starts[line - 1] + Array.from(lineText(line)).slice(0, column - 1).join('').length);
+
+export const currentLine = () => lineAt(area.selectionStart);
+
+// Marks the places of findings, each with its severity.
+export function mark(findings) {
+  marks = new Map();
+  for (const it of findings) {
+    for (let line = it.line; line <= Math.min(it.end_line, it.line + MOST_LINES); line++) {
+      const from = line === it.line ? it.column - 1 : 0;
+      const to = line === it.end_line ? Math.max(it.end_column - 1, from + 1) : Infinity;
+      if (!marks.has(line)) marks.set(line, []);
+      marks.get(line).push({ from, to, severity: it.severity });
+    }
+  }
+  paint();
+}
+
+function paintedLine(line) {
+  const own = (marks.get(line) || []).sort((a, b) => a.from - b.from), plain = lineText(line);
+  const node = made('div', { className: /^\s*#/.test(plain) ? 'comment' : '' });
+  if (!own.length) {
+    node.textContent = plain || '\u200b';
+    return node;
+  }
+  const characters = Array.from(plain);
+  let at = 0;
+  for (const { from, to, severity } of own) {
+    if (from < at) continue;
+    node.append(characters.slice(at, from).join(''));
+    at = Math.min(to, Math.max(characters.length, from + 1));
+    node.append(made('span', { className: severity, textContent: characters.slice(from, at).join('') || ' ' }));
+  }
+  node.append(characters.slice(at).join(''));
+  return node;
+}
+
+// Lays out what is in view. A line too long for that is shown without colours.
+export function paint() {
+  const first = Math.max(1, Math.floor((area.scrollTop - PAD) / LINE) + 1);
+  const last = Math.min(starts.length, first + Math.ceil(area.clientHeight / LINE) + 1);
+  const gutter = [], lines = [];
+  let isPlain = false;
+  for (let line = first; line <= last; line++) {
+    const worst = (marks.get(line) || []).reduce((all, it) => (it.severity === 'error' || !all ? it.severity : all), '');
+    gutter.push(made('div', { className: worst, textContent: line }));
+    isPlain ||= (starts[line] ?? value.length) - starts[line - 1] > LONG;
+    if (!isPlain) lines.push(paintedLine(line));
+  }
+  area.classList.toggle('plain', isPlain);
+  const down = PAD + (first - 1) * LINE - area.scrollTop;
+  $('gutter').replaceChildren(...gutter);
+  $('gutter').style.transform = `translateY(${down}px)`;
+  $('marks').replaceChildren(...(isPlain ? [] : lines));
+  $('marks').style.transform = `translate(${-area.scrollLeft}px, ${down}px)`;
+  $('numbers').style.minWidth = `${String(starts.length).length + 3}ch`;
+}
+
+function placed() {
+  const at = area.selectionStart, line = lineAt(at);
+  const column = Array.from(value.slice(Math.max(starts[line - 1], at - LONG), at)).length + 1;
+  $('position').textContent = `${line}:${at - starts[line - 1] > LONG ? at - starts[line - 1] + 1 : column}`;
+  editor.placed(line);
+}
+
+// Puts a text into the editor. `input` are its bytes, if the text does not stand for them.
+export function put(text, input) {
+  area.value = text;
+  loaded = input;
+  area.setSelectionRange(0, 0);
+  area.scrollTop = area.scrollLeft = 0;
+  index();
+  mark([]);
+  placed();
+}
+
+// Puts bytes into the editor, and says whether their text stands for them.
+export function putBytes(input) {
+  const shown = decoder.decode(input);
+  put(shown, input);
+  if (area.value === shown && shown.length === 0 ? input.length === 0 : equal(encoder.encode(area.value), input)) loaded = undefined;
+  return !loaded;
+}
+
+const equal = (a, b) => a.length === b.length && a.every((it, i) => it === b[i]);
+
+// Replaces the whole text as an edit that can be undone.
+export function replaceAll(text) {
+  area.focus();
+  area.select();
+  if (!document.execCommand('insertText', false, text)) {
+    area.value = text;
+    edited();
+  }
+}
+
+// Selects the characters of a finding, or a whole line.
+export function select({ line, column = 1, end_line: endLine = line, end_column: endColumn = Infinity }) {
+  area.focus();
+  area.setSelectionRange(offsetAt(line, column), offsetAt(endLine, endColumn));
+  area.scrollTop = Math.max(0, (line - 4) * LINE);
+  paint();
+  placed();
+}
+
+export function name(label) {
+  area.setAttribute('aria-label', label);
+}
+
+function edited() {
+  loaded = undefined;
+  index();
+  mark([]);
+  placed();
+  editor.changed();
+}
+
+area.oninput = edited;
+area.onscroll = paint;
+new ResizeObserver(paint).observe(area);
+document.addEventListener('selectionchange', () => {
+  if (document.activeElement === area) placed();
+});
