@@ -1,10 +1,16 @@
 // Workers that run the programs.
 import { $ } from './dom.mjs';
 
+function fromBase64(text) {
+  if (Uint8Array.fromBase64) return Uint8Array.fromBase64(text);
+  const plain = atob(text), bytes = new Uint8Array(plain.length);
+  for (let i = 0; i < plain.length; i++) bytes[i] = plain.charCodeAt(i);
+  return bytes;
+}
+
 // Both modules are compiled once, and each worker is given them.
 async function compiled(name) {
-  const text = $(`${name}-module`).textContent;
-  const packed = Uint8Array.fromBase64 ? Uint8Array.fromBase64(text) : Uint8Array.from(atob(text), (c) => c.charCodeAt(0));
+  const packed = fromBase64($(`${name}-module`).textContent);
   const stream = new Blob([packed]).stream().pipeThrough(new DecompressionStream('gzip'));
   const answer = new Response(stream, { headers: { 'Content-Type': 'application/wasm' } });
   return WebAssembly.compileStreaming(answer);

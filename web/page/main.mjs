@@ -15,7 +15,7 @@ const HINTS = {
   file: { answer: 'No line has a reply.', none: 'No turn has an event.', wait: 'The diagrams come once the file has no error.' },
   lines: { answer: 'Write a request line, as w 0d 00000000 5a.', none: 'No line has an event.', wait: 'The diagrams come once each line is well-formed.' },
 };
-const quick = new Engine(), guide = new Engine();
+const quick = new Engine(), guide = new Engine(), reader = new Engine();
 let kind = 'file', view = 'timing', first = 1, lastTime = 0, answered = 0, timer, clock, answers = {};
 
 // ---- Questions and answers.
@@ -240,12 +240,18 @@ window.bendrika = {
   told: () => Object.fromEntries(Object.entries(answers).map(([key, it]) => [key, decoder.decode(it.err)])),
 };
 
-// ---- The begin: the texts of all codes, then the input of the link.
+// ---- The begin: the input of the link, and meanwhile the texts of all codes, with which the answers are shown again.
 listExamples();
 modules.catch((why) => say(`This browser cannot run the programs: ${why.message ?? why}.`));
-quick.ask([{ key: 'texts', words: ['bendrika', 'explain', '--json'], input: new Uint8Array() }], {
-  got: ({ out }) => learn(out),
-  ended: follow,
+follow();
+reader.ask([{ key: 'texts', words: ['bendrika', 'explain', '--json'], input: new Uint8Array() }], {
+  got({ out }) {
+    learn(out);
+    for (const key of ['findings', 'answer']) if (answers[key]) show[key](answers[key]);
+    if (answers.more) findPlaces();
+    document.documentElement.dataset.learned = 'yes';
+  },
+  ended: () => reader.stop(),
   failed: say,
 });
 window.addEventListener('hashchange', follow);
