@@ -64,13 +64,13 @@ def catching_tools(folder: pathlib.Path, kept: pathlib.Path) -> None:
 
 
 def llvm_module(name: str) -> bytes:
-    """The LLVM module of a program, over what is proved of it."""
+    """The LLVM module of a program, over what is proved of it. The program for Linux that it gives is the one that was built."""
     rt = kit.load_rt()
     rt.rtlib.guarded()
     program = next(it for it in rt.rtlib.crates_below(str(ROOT)) if it.name == name)
-    below = [it.name for it in program.below() if not it.is_built()]
-    if below:
-        raise Failed(f"{name} stands on crates that are not proved and built: {' '.join(below)}; run rt ci, or scripts/prove {name}")
+    built = ROOT / "crates" / name / "out" / name
+    if not built.is_file() or not all(os.path.isdir(it.rlib) for it in program.below()):
+        raise Failed(f"{name} is not proved and built: run rt ci, or scripts/prove {name}")
     with tempfile.TemporaryDirectory() as place, tempfile.TemporaryFile("w+", errors="replace") as program.out:
         folder = pathlib.Path(place)
         catching_tools(folder / "tools", folder / "module.bc")
@@ -80,7 +80,17 @@ def llvm_module(name: str) -> bytes:
         program.out.seek(0)
         if status or not (folder / "module.bc").is_file():
             raise Failed(f"{name} is not proved and built:\n{program.out.read()[-2000:]}")
+        if linked(folder / "program.o", folder / "program") != built.read_bytes():
+            raise Failed(f"these sources give another program than crates/{name}/out/{name}: run rt ci")
         return (folder / "module.bc").read_bytes()
+
+
+def linked(compiled_program: pathlib.Path, program: pathlib.Path) -> bytes:
+    """The program for Linux of the object that `rattle build` made beside the module."""
+    tools = kit.find_kit()
+    words = ["--target", "x86_64-unknown-linux-gnu", "--toolchain", tools / "toolchain", "-o", program, compiled_program]
+    subprocess.run([tools / "bin/rattle-link", *words, tools / "c/libos_c.a", tools / "c/liblibc_c.a"], check=True)
+    return program.read_bytes()
 
 
 def clang(*words: object, given: bytes | None = None) -> bytes:
