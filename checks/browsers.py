@@ -128,9 +128,10 @@ class Chromium(Browser):
             raise Lost(str(found["exceptionDetails"])[:800])
         return json.loads(found["result"]["value"])
 
-    def key(self, name: str, code: int, modifiers: int = 0) -> None:
-        for kind in ("rawKeyDown", "keyUp"):
-            self.call("Input.dispatchKeyEvent", type=kind, key=name, code=name, windowsVirtualKeyCode=code, modifiers=modifiers)
+    def key(self, name: str, code: int) -> None:
+        text = {"text": "\r"} if name == "Enter" else {}
+        for kind, more in (("keyDown" if text else "rawKeyDown", text), ("keyUp", {})):
+            self.call("Input.dispatchKeyEvent", type=kind, key=name, code=name, windowsVirtualKeyCode=code, **more)
 
     def picture(self) -> bytes:
         return base64.b64decode(self.call("Page.captureScreenshot", format="png")["data"])
@@ -167,7 +168,7 @@ class Firefox(Browser):
             raise Lost(str(found)[:800])
         return json.loads(found["result"]["value"])
 
-    def key(self, name: str, code: int, modifiers: int = 0) -> None:
+    def key(self, name: str, code: int) -> None:
         value = {"Tab": "\ue004", "Enter": "\ue007", "ArrowDown": "\ue015", "ArrowUp": "\ue013", "ArrowRight": "\ue014", "ArrowLeft": "\ue012", "Escape": "\ue00c"}[name]
         actions = [{"type": "keyDown", "value": value}, {"type": "keyUp", "value": value}]
         self.call("input.performActions", context=self.context, actions=[{"type": "key", "id": "keyboard", "actions": actions}])

@@ -11,8 +11,7 @@ export const editor = { changed() {}, placed() {} };
 export const text = () => value;
 // The bytes of the input: those that were loaded until the text is edited, since a textarea has no CR and no byte but UTF-8.
 export const bytes = () => loaded ?? encoder.encode(value);
-export const lineCount = () => starts.length;
-export const lineText = (line) => value.slice(starts[line - 1], line < starts.length ? starts[line] - 1 : value.length);
+const lineText = (line) => value.slice(starts[line - 1], line < starts.length ? starts[line] - 1 : value.length);
 
 function index() {
   value = area.value;
@@ -71,7 +70,7 @@ function paintedLine(line) {
 }
 
 // Lays out what is in view. A line too long for that is shown without colours.
-export function paint() {
+function paint() {
   const first = Math.max(1, Math.floor((area.scrollTop - PAD) / LINE) + 1);
   const last = Math.min(starts.length, first + Math.ceil(area.clientHeight / LINE) + 1);
   const gutter = [], lines = [];
@@ -98,8 +97,7 @@ function placed() {
   editor.placed(line);
 }
 
-// Puts a text into the editor. `input` are its bytes, if the text does not stand for them.
-export function put(text, input) {
+function put(text, input) {
   area.value = text;
   loaded = input;
   area.setSelectionRange(0, 0);
@@ -109,15 +107,14 @@ export function put(text, input) {
   placed();
 }
 
+const equal = (a, b) => a.length === b.length && a.every((it, i) => it === b[i]);
+
 // Puts bytes into the editor, and says whether their text stands for them.
 export function putBytes(input) {
-  const shown = decoder.decode(input);
-  put(shown, input);
-  if (area.value === shown && shown.length === 0 ? input.length === 0 : equal(encoder.encode(area.value), input)) loaded = undefined;
+  put(decoder.decode(input), input);
+  if (equal(encoder.encode(value), input)) loaded = undefined;
   return !loaded;
 }
-
-const equal = (a, b) => a.length === b.length && a.every((it, i) => it === b[i]);
 
 // Replaces the whole text as an edit that can be undone.
 export function replaceAll(text) {

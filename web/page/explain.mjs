@@ -1,6 +1,7 @@
 // The texts of codes and replies, as `bendrika explain --json` has them.
 import { $, decoder, linesOf, made } from './dom.mjs';
 
+const CODE = /^[A-Z]+\d+$/;
 const texts = new Map();
 let opener;
 
@@ -11,18 +12,23 @@ export function learn(out) {
   }
 }
 
-// A button that opens the text of a code; the plain words where there is none. `code` is the longest begin of the words that
-// has a text, or that of their second word, as K3 in `refused K3`.
-export function explainable(words, className = 'reply') {
-  const parts = words.split(' ');
-  const code = [words, parts.slice(0, 2).join(' '), ...(/^[A-Z]+\d+$/.test(parts[1] ?? '') ? [parts[1]] : []),
-    ...(/^[A-Z]+\d+$/.test(parts[2] ?? '') ? [parts[2]] : []), parts[0]].find((it) => texts.has(it));
-  if (!code) return made('span', { textContent: words });
+function opening(code, words, className) {
   const it = texts.get(code);
   const node = made('button', { type: 'button', className, textContent: words, title: `${it.code}: ${it.title}`, tabIndex: -1 });
   if (it.code !== 'done') node.classList.add('bad');
   node.onclick = () => explain(code, node);
   return node;
+}
+
+// A reply with its codes as buttons that open their texts, as K3 in `refused K3`. Without a code the whole is one button, if its
+// first words have a text.
+export function explainable(words, className = 'reply') {
+  const parts = words.split(' '), isCode = (it) => CODE.test(it) && texts.has(it);
+  if (parts.length > 1 && parts.some(isCode)) {
+    return made('span', { className: 'bad' }, ...parts.flatMap((it, i) => [i ? ' ' : '', isCode(it) ? opening(it, it, className) : it]));
+  }
+  const code = [words, parts.slice(0, 2).join(' '), parts[0]].find((it) => texts.has(it));
+  return code ? opening(code, words, className) : made('span', { textContent: words });
 }
 
 function explain(code, from) {

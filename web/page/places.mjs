@@ -2,7 +2,7 @@
 import { decoder, encoder, linesOf } from './dom.mjs';
 
 // A line that may be one of a script: a command, and no punctuation of TOML. Or a script within quotes on the line of its key.
-const COMMAND = /^([ \t]*)(?=[a-z]+[ \t][^='"[\]{}]*$)/i;
+const COMMAND = /^([ \t]*)(?=[a-z]+[ \t][^='"[\]{}#]*(?:#.*)?$)/i;
 const QUOTED = /(\bscript[ \t]*=[ \t]*["'])(?=[a-z])/;
 const LONGEST = 1 << 19;
 
