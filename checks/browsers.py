@@ -19,7 +19,7 @@ from typing import Any
 
 # Debian's packages of Python are not on the path of another Python.
 sys.path.append("/usr/lib/python3/dist-packages")
-TIME = 180
+TIME = 60
 COMMANDS = {"chromium": "chromium", "firefox": "firefox-esr"}
 DARK = "ui.systemUsesDarkTheme"
 
@@ -133,6 +133,9 @@ class Chromium(Browser):
         for kind, more in (("keyDown" if text else "rawKeyDown", text), ("keyUp", {})):
             self.call("Input.dispatchKeyEvent", type=kind, key=name, code=name, windowsVirtualKeyCode=code, **more)
 
+    def insert(self, text: str) -> None:
+        self.call("Input.insertText", text=text)
+
     def picture(self) -> bytes:
         return base64.b64decode(self.call("Page.captureScreenshot", format="png")["data"])
 
@@ -171,6 +174,10 @@ class Firefox(Browser):
     def key(self, name: str, code: int) -> None:
         value = {"Tab": "\ue004", "Enter": "\ue007", "ArrowDown": "\ue015", "ArrowUp": "\ue013", "ArrowRight": "\ue014", "ArrowLeft": "\ue012", "Escape": "\ue00c"}[name]
         actions = [{"type": "keyDown", "value": value}, {"type": "keyUp", "value": value}]
+        self.call("input.performActions", context=self.context, actions=[{"type": "key", "id": "keyboard", "actions": actions}])
+
+    def insert(self, text: str) -> None:
+        actions = [it for letter in text for it in ({"type": "keyDown", "value": letter}, {"type": "keyUp", "value": letter})]
         self.call("input.performActions", context=self.context, actions=[{"type": "key", "id": "keyboard", "actions": actions}])
 
     def picture(self) -> bytes:

@@ -1,9 +1,14 @@
-// The editor: a textarea over a coloured copy of the lines that are in view.
+// The editor: a textarea over a coloured copy of the lines that are in view. Browsers take long for each key in a textarea of many
+// lines, so of a long text it has a part, which moves as it is scrolled.
 import { $, decoder, encoder, made } from './dom.mjs';
 
 const LINE = 20, PAD = 8, LONG = 5000, MOST_LINES = 50;
+// The characters from which on a text has parts, and the lines of a part.
+const LARGE = 100_000, PART = 400;
 const area = $('text');
 let starts = [0], value = '', marks = new Map(), loaded;
+// The part: whether it is one, its first line, and the offsets where it begins and ends.
+let isPart = false, from = 1, begin = 0, end = 0;
 
 // How the editor's owner hears of a change and of another place of the cursor.
 export const editor = { changed() {}, placed() {} };
@@ -14,7 +19,6 @@ export const bytes = () => loaded ?? encoder.encode(value);
 const lineText = (line) => value.slice(starts[line - 1], line < starts.length ? starts[line] - 1 : value.length);
 
 function index() {
-  value = area.value;
   starts = [0];
   for (let at = value.indexOf('\n'); at >= 0; at = value.indexOf('\n', at + 1)) starts.push(at + 1);
 }
@@ -34,7 +38,34 @@ function lineAt(offset) {
 const offsetAt = (line, column) => (line > starts.length ? value.length
   : starts[line - 1] + Array.from(lineText(line)).slice(0, column - 1).join('').length);
 
-export const currentLine = () => lineAt(area.selectionStart);
+export const currentLine = () => lineAt(begin + area.selectionStart);
+const lastLine = () => (isPart ? Math.min(starts.length, from + PART - 1) : starts.length);
+
+// Puts the part that begins with a line into the textarea.
+function showPart(first) {
+  from = Math.max(1, Math.min(first, starts.length - PART + 1));
+  begin = starts[from - 1];
+  end = lastLine() < starts.length ? starts[lastLine()] - 1 : value.length;
+  area.value = value.slice(begin, end);
+  const counted = (n) => n.toLocaleString('en');
+  $('part').textContent = isPart ? `lines ${counted(from)} to ${counted(lastLine())} of ${counted(starts.length)} are in the editor` : '';
+}
+
+function showWhole() {
+  isPart = value.length > LARGE;
+  showPart(1);
+}
+
+// Moves the part when it is scrolled to one of its ends. What is seen and what is selected stay.
+function follow() {
+  const isFirst = area.scrollTop < LINE && from > 1;
+  const isLast = area.scrollTop + area.clientHeight > area.scrollHeight - LINE && lastLine() < starts.length;
+  if (!isPart || !(isFirst || isLast)) return;
+  const seen = from + (area.scrollTop - PAD) / LINE, [a, b] = [begin + area.selectionStart, begin + area.selectionEnd];
+  showPart(Math.floor(from + (isFirst ? -PART : PART) / 2));
+  area.setSelectionRange(Math.max(0, a - begin), Math.max(0, b - begin));
+  area.scrollTop = (seen - from) * LINE + PAD;
+}
 
 // Marks the places of findings, each with its severity.
 export function mark(findings) {
@@ -47,7 +78,16 @@ export function mark(findings) {
       marks.get(line).push({ from, to, severity: it.severity });
     }
   }
-  paint();
+  paintSoon();
+}
+
+// Painting asks for the textarea's layout, which takes long of a long text. So it waits for the frame, whose layout that is.
+let frame = 0;
+function paintSoon() {
+  frame ||= requestAnimationFrame(() => {
+    frame = 0;
+    paint();
+  });
 }
 
 function paintedLine(line) {
@@ -71,8 +111,8 @@ function paintedLine(line) {
 
 // Lays out what is in view. A line too long for that is shown without colours.
 function paint() {
-  const first = Math.max(1, Math.floor((area.scrollTop - PAD) / LINE) + 1);
-  const last = Math.min(starts.length, first + Math.ceil(area.clientHeight / LINE) + 1);
+  const first = Math.max(from, Math.floor((area.scrollTop - PAD) / LINE) + from);
+  const last = Math.min(lastLine(), first + Math.ceil(area.clientHeight / LINE) + 1);
   const gutter = [], lines = [];
   let isPlain = false;
   for (let line = first; line <= last; line++) {
@@ -82,7 +122,7 @@ function paint() {
     if (!isPlain) lines.push(paintedLine(line));
   }
   area.classList.toggle('plain', isPlain);
-  const down = PAD + (first - 1) * LINE - area.scrollTop;
+  const down = PAD + (first - from) * LINE - area.scrollTop;
   $('gutter').replaceChildren(...gutter);
   $('gutter').style.transform = `translateY(${down}px)`;
   $('marks').replaceChildren(...(isPlain ? [] : lines));
@@ -91,18 +131,19 @@ function paint() {
 }
 
 function placed() {
-  const at = area.selectionStart, line = lineAt(at);
+  const at = begin + area.selectionStart, line = lineAt(at);
   const column = Array.from(value.slice(Math.max(starts[line - 1], at - LONG), at)).length + 1;
   $('position').textContent = `${line}:${at - starts[line - 1] > LONG ? at - starts[line - 1] + 1 : column}`;
   editor.placed(line);
 }
 
 function put(text, input) {
-  area.value = text;
+  value = text.replace(/\r\n?/g, '\n');
   loaded = input;
+  index();
+  showWhole();
   area.setSelectionRange(0, 0);
   area.scrollTop = area.scrollLeft = 0;
-  index();
   mark([]);
   placed();
 }
@@ -116,21 +157,21 @@ export function putBytes(input) {
   return !loaded;
 }
 
-// Replaces the whole text as an edit that can be undone.
+// Replaces the whole text, as an edit that can be undone unless it has parts.
 export function replaceAll(text) {
   area.focus();
   area.select();
-  if (!document.execCommand('insertText', false, text)) {
-    area.value = text;
-    edited();
-  }
+  if (!isPart && text.length <= LARGE && document.execCommand('insertText', false, text)) return;
+  put(text);
+  editor.changed();
 }
 
 // Selects the characters of a finding, or a whole line.
 export function select({ line, column = 1, end_line: endLine = line, end_column: endColumn = Infinity }) {
+  if (line < from || line > lastLine()) showPart(line - PART / 2);
   area.focus();
-  area.setSelectionRange(offsetAt(line, column), offsetAt(endLine, endColumn));
-  area.scrollTop = Math.max(0, (line - 4) * LINE);
+  area.setSelectionRange(offsetAt(line, column) - begin, offsetAt(endLine, endColumn) - begin);
+  area.scrollTop = Math.max(0, (line - from - 3) * LINE);
   paint();
   placed();
 }
@@ -141,6 +182,8 @@ export function name(label) {
 
 function edited() {
   loaded = undefined;
+  value = value.slice(0, begin) + area.value + value.slice(end);
+  end = begin + area.value.length;
   index();
   mark([]);
   placed();
@@ -148,8 +191,11 @@ function edited() {
 }
 
 area.oninput = edited;
-area.onscroll = paint;
-new ResizeObserver(paint).observe(area);
+area.onscroll = () => {
+  follow();
+  paint();
+};
+new ResizeObserver(paintSoon).observe(area);
 document.addEventListener('selectionchange', () => {
   if (document.activeElement === area) placed();
 });
