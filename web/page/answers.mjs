@@ -58,7 +58,10 @@ export function showAnswer({ out, err, failed }, hint) {
   const lines = linesOf(decoder.decode(out)), messages = linesOf(decoder.decode(err));
   const nodes = lines.slice(0, MOST_SHOWN).map(shownLine);
   if (lines.length > MOST_SHOWN) nodes.push(made('div', { className: 'hint', textContent: `${counted(lines.length - MOST_SHOWN, 'line')} more; Save has all.` }));
-  for (const it of messages) nodes.push(made('div', {}, explainable(it.replace(/^vme: /, ''), 'reply bad')));
+  for (const it of messages) {
+    const [, head, rest] = /^(vme: )?(.*)$/.exec(it);
+    nodes.push(made('div', { className: 'bad' }, head ?? '', explainable(rest, 'reply bad')));
+  }
   if (failed) nodes.push(made('div', { className: 'hint', textContent: `The program stopped: ${failed}` }));
   if (!nodes.length) nodes.push(made('div', { className: 'hint', textContent: hint }));
   $('answer').classList.remove('stale');
@@ -100,7 +103,7 @@ export function linkScripts(found) {
 
 // Each reply of request lines is linked to its line, with the rows of signals above it.
 export function linkRequests(lines) {
-  const nodes = [...$('answer').children], replies = nodes.filter((it) => !it.classList.contains('row') && !it.classList.contains('hint'));
+  const nodes = [...$('answer').children], replies = nodes.filter((it) => !/row|hint|bad/.test(it.className));
   places = new Map();
   if (replies.length !== lines.length) return;
   replies.forEach((node, i) => {

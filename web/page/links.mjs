@@ -94,9 +94,11 @@ function keep(content, name) {
   setTimeout(() => URL.revokeObjectURL(url), 1000);
 }
 
-// The request lines as the script of one board like that of `vme cycles`, in the form that the guide gives.
+// The request lines as the script of one board like that of `vme cycles`, in the form that the guide gives. A line has a turn for
+// each of its data, at most 256, and two for the bus.
+const TURNS = 300, MOST_TURNS = 1_000_000;
 export const asConfiguration = () => encoder.encode(
-  `rounds = 1_000_000\nboard = [{slot = 1, base = 0, size = 4096, uat = true, script = '''\n${text()}\n'''}]\n`);
+  `rounds = ${Math.min(MOST_TURNS, TURNS * text().split('\n').length)}\nboard = [{slot = 1, base = 0, size = 4096, uat = true, script = '''\n${text()}\n'''}]\n`);
 
 // Saves the input, or what a program writes of it.
 export function save(what, kind) {

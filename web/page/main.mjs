@@ -13,7 +13,7 @@ const EVENTS = 50, FIRST = 'torn_block';
 const REST = 15, PAUSE = 300, LONG = 65536, SLOW = 100, RUNNING = 400;
 const HINTS = {
   file: { answer: 'No line has a reply.', none: 'No turn has an event.', wait: 'The diagrams come once the file has no error.' },
-  lines: { answer: 'Write a request line, as w 0d 00000000 5a.', none: 'No line has an event.', wait: 'The diagrams come once each line is well-formed.' },
+  lines: { answer: 'Write a request line, as w 0d 00000000 5a.', none: 'No line has an event.', wait: 'The diagrams come once each line is well-formed, of at most 1,000 lines.' },
 };
 const quick = new Engine(), guide = new Engine(), reader = new Engine();
 let kind = 'file', view = 'timing', first = 1, lastTime = 0, answered = 0, timer, clock, answers = {};
