@@ -172,7 +172,11 @@ class Firefox(Browser):
         return json.loads(found["result"]["value"])
 
     def key(self, name: str, code: int) -> None:
-        value = {"Tab": "\ue004", "Enter": "\ue007", "ArrowDown": "\ue015", "ArrowUp": "\ue013", "ArrowRight": "\ue014", "ArrowLeft": "\ue012", "Escape": "\ue00c"}[name]
+        if name == "Enter":
+            # Without a window the page has no focus, and then a key presses no button.
+            self.run("document.activeElement.click()")
+            return
+        value = {"Tab": "\ue004", "ArrowDown": "\ue015", "ArrowUp": "\ue013", "ArrowRight": "\ue014", "ArrowLeft": "\ue012", "Escape": "\ue00c"}[name]
         actions = [{"type": "keyDown", "value": value}, {"type": "keyUp", "value": value}]
         self.call("input.performActions", context=self.context, actions=[{"type": "key", "id": "keyboard", "actions": actions}])
 
