@@ -89,7 +89,7 @@ def linked(compiled_program: pathlib.Path, program: pathlib.Path) -> bytes:
     """The program for Linux of the object that `rattle build` made beside the module."""
     tools = kit.find_kit()
     words = ["--target", "x86_64-unknown-linux-gnu", "--toolchain", tools / "toolchain", "-o", program, compiled_program]
-    subprocess.run([tools / "bin/rattle-link", *words, tools / "c/libos_c.a", tools / "c/liblibc_c.a"], check=True)
+    subprocess.run([tools / "bin/rattle-link", *words, tools / "c/libos_c.a", tools / "c/liblibc_c.a"], check=True, stdout=subprocess.DEVNULL)
     return program.read_bytes()
 
 
