@@ -95,10 +95,10 @@ $('answer').addEventListener('click', ({ target }) => {
   if (line) select({ line });
 });
 
-// A line of the report is linked where its place is known.
+// A line of the report is linked where its place is known. A button without a place stays in the order of the keys.
 export function linkScripts(found) {
   places = found;
-  for (const node of $('answer').querySelectorAll('.place')) node.disabled = !places.has(node.dataset.place);
+  for (const node of $('answer').querySelectorAll('.place')) node.setAttribute('aria-disabled', String(!places.has(node.dataset.place)));
 }
 
 // Each reply of request lines is linked to its line, with the rows of signals above it.
