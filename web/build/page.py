@@ -16,6 +16,13 @@ ROOT = pathlib.Path(__file__).resolve().parent.parent.parent
 WEB = ROOT / "web"
 # The examples that come first in the list; the others follow by name.
 FIRST = ["torn_block", "dual_port", "whole_modify", "lost_update", "lock", "handshake", "first_cycles"]
+# The folders of the examples: what ends their names, the kind of input, and the group in the list.
+FOLDERS = [
+    ("examples", "toml", "file", ""),
+    ("examples/tutorial", "toml", "file", "tutorial"),
+    ("examples/litmus", "toml", "file", "litmus"),
+    ("web/lines", "lines", "lines", ""),
+]
 IMPORT = re.compile(r"^import \{[^}]*\} from '([^']*)';\n", re.MULTILINE)
 EXPORT = re.compile(r"^export ((?:async function|function|class|const) (\w+|\$))", re.MULTILINE)
 
@@ -43,11 +50,11 @@ def joined(entry: pathlib.Path) -> str:
 def examples() -> list[dict[str, str]]:
     """The examples: name, kind, group, title and text of each."""
     found = []
-    for folder, end, kind, group in (("examples", "toml", "file", ""), ("examples/litmus", "toml", "file", "litmus"), ("web/lines", "lines", "lines", "")):
+    for folder, end, kind, group in FOLDERS:
         paths = sorted((ROOT / folder).glob(f"*.{end}"), key=lambda it: (FIRST.index(it.stem) if it.stem in FIRST else len(FIRST), it.stem))
         for path in paths:
             text = path.read_text(encoding="utf-8")
-            title = next((line[1:].strip() for line in text.splitlines() if line.startswith("#")), "")
+            title = next((line[1:].strip() for line in text.splitlines() if line.startswith("#") and not line.startswith("#:")), "")
             of = {"group": group} if group else {}
             found.append({"name": f"{group}/{path.stem}" if group else path.stem, "kind": kind, "title": title, "text": text, **of})
     return found

@@ -16,10 +16,10 @@ export function say(message) {
 }
 
 export function listExamples() {
-  for (const [label, of] of [['Configurations', 'file'], ['Litmus tests', 'litmus'], ['Request lines', 'lines']]) {
+  for (const [label, of] of [['Configurations', 'file'], ['Tutorial', 'tutorial'], ['Litmus tests', 'litmus'], ['Request lines', 'lines']]) {
     const group = made('optgroup', { label });
     for (const it of examples) {
-      if ((it.group ?? it.kind) === of) group.append(made('option', { value: it.name, textContent: it.name.replace(/^litmus\//, ''), title: it.title }));
+      if ((it.group ?? it.kind) === of) group.append(made('option', { value: it.name, textContent: it.name.replace(/^.*\//, ''), title: it.title }));
     }
     $('example').append(group);
   }
