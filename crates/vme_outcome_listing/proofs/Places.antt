@@ -7,7 +7,7 @@ use Rattle.std.proofs.lemmas.Option.{slice_get_cases, slice_get_past}
 use Rattle.vme_grammar.specs.Texts.{hex_byte, hex_text}
 use Rattle.vme_memory.specs.Boards.{Board}
 use Rattle.vme_shared.specs.declared.reply.LineReply.{LineReply}
-use Rattle.vme_line_task.specs.Traces.{ScriptState}
+use Rattle.vme_states.specs.BareStates.{BareScript}
 use Rattle.vme_outcome_listing.specs.Places.{byte_text}
 use Rattle.vme_outcome_listing.proofs.Outputs.{one_more}
 use Rattle.vme_outcome_listing.proofs.Texts.{ended_at, bytes_at}
@@ -19,9 +19,9 @@ no_digits count offset text =
     ∙ ap (λ (bytes : List ℕ). text ++ hex_text bytes) (sym (ap (take count) (drop_all offset [] (omega arith)) ∙ take-nil count))
 
 -- the reply in a script state is that of the outcome
-pub reply_there : (states : List ScriptState) (board line : ℕ) (reply : Option LineReply) → board < length states
-    → ((c : ScriptState) → slice_get states board ≡ Some c → reply ≡ slice_get c.ended line)
-    → reply ≡ slice_get (unwrap_or (slice_get (map (λ (c : ScriptState). c.ended) states) board) []) line
+pub reply_there : (states : List BareScript) (board line : ℕ) (reply : Option LineReply) → board < length states
+    → ((c : BareScript) → slice_get states board ≡ Some c → reply ≡ slice_get c.ended line)
+    → reply ≡ slice_get (unwrap_or (slice_get (map (λ (c : BareScript). c.ended) states) board) []) line
 reply_there states board line reply less at =
     elim (slice_get_cases states board).1 [
       | inl found ↦
@@ -31,14 +31,14 @@ reply_there states board line reply less at =
     ]
 
 -- past the last processor there is no reply
-pub no_reply : (states : List ScriptState) (board line : ℕ) → length states ≤ board
-    → None ≡ slice_get (unwrap_or (slice_get (map (λ (c : ScriptState). c.ended) states) board) []) line
+pub no_reply : (states : List BareScript) (board line : ℕ) → length states ≤ board
+    → None ≡ slice_get (unwrap_or (slice_get (map (λ (c : BareScript). c.ended) states) board) []) line
 no_reply states board line past = sym (ap (λ (o : Option (List LineReply)). slice_get (unwrap_or o []) line) none ∙ slice_get_past [] line (omega arith))
   where
-    none : slice_get (map (λ (c : ScriptState). c.ended) states) board ≡ None
+    none : slice_get (map (λ (c : BareScript). c.ended) states) board ≡ None
     none =
-        slice_get_past (map (λ (c : ScriptState). c.ended) states) board
-        (omega (arith, past, length-map states (λ (c : ScriptState). c.ended)))
+        slice_get_past (map (λ (c : BareScript). c.ended) states) board
+        (omega (arith, past, length-map states (λ (c : BareScript). c.ended)))
 
 -- the digits of bytes of a board are those of the outcome's
 pub memory_there : (boards : List Board) (board offset count : ℕ) (one : Board) (before after : List ℕ) → slice_get boards board ≡ Some one

@@ -92,8 +92,8 @@ replies_next slot script ended j number found =
     ]
 
 -- the replies of the script state at an index
-pub ended_at : (states : List ScriptState) (i : ℕ) (c : ScriptState) → slice_get states i ≡ Some c
-    → slice_get (map (λ (s : ScriptState). s.ended) states) i ≡ Some c.ended
+pub ended_at : (states : List BareScript) (i : ℕ) (c : BareScript) → slice_get states i ≡ Some c
+    → slice_get (map (λ (s : BareScript). s.ended) states) i ≡ Some c.ended
 ended_at states i c found =
     slice_get-map (λ (s : BareScript). s.ended) states i ∙ ap (option_map (λ (s : BareScript). s.ended)) found
 
