@@ -73,15 +73,18 @@ fn kept_of(
 pub(crate) fn listed(rt: &HostRuntime, words: &ArgMatches<'_>) -> Result<Status, Fault> {
     let path = words.get_str("FILE").unwrap_or(STANDARD_INPUT);
     let stated = conditions_of(rt.alloc(), words)?;
-    let conditions = stated.conditions.as_slice();
-    let (kept, form) = kept_of(rt.alloc(), words, conditions)?;
-    let kept = kept.as_ref();
+    let (kept, form) = kept_of(rt.alloc(), words, stated.conditions.as_slice())?;
+    // Not `as_ref`: the borrow checker wants one lifetime for all that is asked.
+    let lines = match &kept {
+        Some(lines) => Some(lines),
+        None => None,
+    };
     let asked = Asked {
         limit: words.get_one("limit").unwrap_or(1),
         form,
         quiet: words.get_flag("quiet"),
-        kept,
-        conditions,
+        kept: lines,
+        conditions: stated.conditions.as_slice(),
     };
     match read_file(rt, path)? {
         Some(file) => list_file(
