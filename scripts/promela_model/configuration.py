@@ -10,7 +10,10 @@ from promela_model.tables import ADDRESSES, CODES, MAILBOX_CODES, mailbox_len
 
 REQUIRED = None
 # The keys with their kinds and defaults: vme_config_toml.Keys.
-FILE_KEYS = {"arbiter": (str, "priority"), "tries": (int, 1000), "rounds": (int, 0), "schedule": (list, []), "board": (list, []), "mailbox": (list, [])}
+FILE_KEYS = {
+    "arbiter": (str, "priority"), "tries": (int, 1000), "rounds": (int, 0), "schedule": (list, []), "board": (list, []),
+    "mailbox": (list, []),
+}
 BOARD_KEYS = {
     "slot": (int, REQUIRED), "level": (int, 3), "space": (str, "a32"), "base": (int, REQUIRED), "size": (int, REQUIRED),
     "width": (int, 32), "uat": (bool, True), "blt": (bool, True), "rmw": (bool, True), "supervisory": (bool, False), "script": (str, ""),
@@ -30,13 +33,15 @@ class Mailbox(NamedTuple):
 
 
 class Configuration(NamedTuple):
-    """What a file configures, without its schedule."""
+    """What a file configures."""
 
     arbiter: str
     tries: int
     boards: list[Board]
     scripts: list[list[Line]]
     mailboxes: list[Mailbox]
+    schedule: list[list[int]]
+    rounds: int
 
 
 def table(given: object, keys: dict, what: str) -> dict:
@@ -81,7 +86,7 @@ def require_apart(boards: list[Board]) -> None:
 
 
 def require_schedule(keys: dict, boards: list[Board]) -> None:
-    """The turns of a file are lawful, though a model has all orders of turns: vme_script.schedule_of."""
+    """The turns of a file are lawful, also for a model of all orders of turns: vme_script.schedule_of."""
     pairs = keys["schedule"]
     for it in pairs:
         whole = isinstance(it, list) and len(it) == 2 and all(type(one) is int and 0 <= one < 2**32 for one in it)
@@ -157,4 +162,4 @@ def read(text: str) -> Configuration:
     scripts = [read_script(board.slot, script) for board, script in zip(boards, texts)]
     for board, script in zip(boards, scripts):
         require_lines(script, board, boards, mailboxes)
-    return Configuration(keys["arbiter"], keys["tries"], boards, scripts, mailboxes)
+    return Configuration(keys["arbiter"], keys["tries"], boards, scripts, mailboxes, keys["schedule"], keys["rounds"])

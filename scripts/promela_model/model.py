@@ -1,6 +1,7 @@
 """The model of a configuration, as the text of a file of Promela."""
 
 from promela_model.configuration import Configuration
+from promela_model.cycles import Access
 from promela_model.memory import ZERO, Memory
 from promela_model.processor import Plan, Processor, plan
 from promela_model.refused import require
@@ -9,9 +10,9 @@ from promela_model.tables import LEVELS, first_after, level_order
 ROW = 16
 # The most bytes of memory and replies that a state may have, and the size of a state that pan is built with.
 MOST_BYTES, STATE = 8192, 16384
-HEAD = """/* {name} as a model for SPIN, by scripts/promela. Each complete run prints an outcome, as a line:
+HEAD = f"""/* A configuration as a model for SPIN, by scripts/promela. Each complete run prints an outcome, as a line:
 
-       spin -a MODEL; cc -DSAFETY -DNOREDUCE -DVECTORSZ={state} -o pan pan.c
+       spin -a MODEL; cc -DSAFETY -DNOREDUCE -DVECTORSZ={STATE} -o pan pan.c
        ./pan -n | sed -n 's/^outcome: //p' | sort -u
 
    A step of a process is a turn of its slot. A poll of the arbiter that waits changes nothing, so it is no step. */"""
@@ -47,12 +48,12 @@ def release(processors: list[Processor], arbiter: str) -> list[str]:
     return [*text, "    fi", "}"]
 
 
-def bus(processors: list[Processor], arbiter: str) -> list[str]:
+def bus(processors: list[Processor], arbiter: str, request: str) -> list[str]:
     """The arbiter: who holds the bus, who waits for it, and the level at which the next grant begins."""
     if not processors:
         return []
     waits = ", ".join(f"waits{it.own.slot}" for it in processors)
-    return ["byte holder, first = 3;", f"bool {waits};", *REQUEST.splitlines(), *release(processors, arbiter)]
+    return ["byte holder, first = 3;", f"bool {waits};", *request.splitlines(), *release(processors, arbiter)]
 
 
 def printed(text: str, cells: list[str]) -> str:
@@ -85,27 +86,42 @@ def rows_code(memory: Memory, slot: int, size: int) -> list[str]:
 def outcome(config: Configuration, memory: Memory, processors: list[Processor]) -> list[str]:
     """The process that prints the outcome once each slot has ended."""
     codes = ['printf("outcome: ");', *(reply_code(it, number) for it in processors for number in it.replies)]
-    codes += [code for board in config.boards for code in rows_code(memory, board.slot, board.size)]
-    steps = [f"        c_code {{ {code} }};" for code in [*codes, 'printf("\\n");']]
+    steps = code_steps([*codes, *memory_codes(config, memory)])
     count = sum(it.has_turns for it in processors)
-    return ["active proctype outcome() {", "    d_step {", f"        ended == {count} ->", *steps, "    }", "}"]
+    return ["", "active proctype outcome() {", "    d_step {", f"        ended == {count} ->", *steps, "    }", "}"]
 
 
-def accesses_of(plans: list[list[Plan]]) -> list:
+def memory_codes(config: Configuration, memory: Memory) -> list[str]:
+    """The codes that print the memories of all boards, and end the line."""
+    return [*(code for board in config.boards for code in rows_code(memory, board.slot, board.size)), 'printf("\\n");']
+
+
+def code_steps(codes: list[str]) -> list[str]:
+    """The statements that perform codes."""
+    return [f"        c_code {{ {code} }};" for code in codes]
+
+
+def accesses_of(plans: list[list[Plan]]) -> list[Access]:
     """All accesses of all lines."""
     return [access for script in plans for it in script if it.transfer for access in it.transfer.accesses]
 
 
-def model_of(config: Configuration, name: str) -> str:
-    """The model of a configuration."""
+def parts_of(config: Configuration, kind: type[Processor]) -> tuple[Memory, list[Processor], list[str]]:
+    """The memory of a model, the processes of its slots, and the declarations of what both keep."""
     plans = [[plan(config, board, line) for line in script] for board, script in zip(config.boards, config.scripts)]
     memory = Memory(accesses_of(plans), config.mailboxes)
-    processors = [Processor(config, memory, board, script) for board, script in zip(config.boards, plans)]
-    declared = [f"byte m{slot}[{len(places)}];" for slot, places in memory.places.items()]
-    declared += [it for processor in processors for it in processor.globals]
-    size = sum(len(it) for it in memory.places.values()) + sum(len(line) for it in processors for reply in it.replies.values() for _, line in reply)
+    processors = [kind(config, memory, board, script) for board, script in zip(config.boards, plans)]
+    size = sum(len(it) for it in memory.places.values())
+    size += sum(len(cells) for it in processors for reply in it.replies.values() for _, cells in reply)
     require(size <= MOST_BYTES, f"a state would have {size} bytes of memory and replies, and a model has at most {MOST_BYTES}")
-    text = [HEAD.format(name=name, state=STATE), *declared, "byte ended;", *bus([it for it in processors if it.on_bus], config.arbiter)]
+    declared = [f"byte m{slot}[{len(places)}];" for slot, places in memory.places.items()]
+    return memory, processors, declared + [it for processor in processors for it in processor.globals]
+
+
+def model_of(config: Configuration) -> str:
+    """The model of a configuration, whose complete runs print its outcomes."""
+    memory, processors, declared = parts_of(config, Processor)
+    text = [HEAD, *declared, "byte ended;", *bus([it for it in processors if it.on_bus], config.arbiter, REQUEST)]
     for it in processors:
-        text += ["", *it.process()] if it.has_turns else []
-    return "\n".join([*text, "", *outcome(config, memory, processors), ""])
+        text += it.process() if it.has_turns else []
+    return "\n".join([*text, *outcome(config, memory, processors), ""])

@@ -5,7 +5,7 @@ from typing import NamedTuple
 from promela_model.configuration import Configuration, Mailbox
 from promela_model.cycles import Board, Transfer, local_of, refusal, request_of, transfer_of
 from promela_model.lines import Line
-from promela_model.memory import Memory, Reply, change, effect, equal, number, set_bytes, set_number
+from promela_model.memory import Memory, Reply, effect, equal, number, set_bytes, set_number
 from promela_model.tables import RETRIED, STAGES, first_after
 
 LOCAL = ("lr", "lw", "lm")
@@ -55,7 +55,7 @@ class Processor:
         going = [it for it in plans if not it.refused]
         labels = [f"line_{it.line.number}" for it in going] + ["end_script"]
         self.is_target = False
-        for it in plans:
+        for self.place, it in enumerate(plans):
             self.text.append(f"    /* {it.line.number}: {it.line.text} */")
             if it.refused:
                 self.replies[it.line.number] = [(f"refused {it.refused}", [])]
@@ -193,7 +193,11 @@ class Processor:
         cells = memory.count(box, count)
         return [f"{counts[count]} = {number(cells)}"] if what == "read" else set_number(cells, f"{counts[count]} + 1")
 
+    def last(self) -> list[str]:
+        """What follows the last line."""
+        return ["    false"]
+
     def process(self) -> list[str]:
         """The text of the process."""
         variables = [f"    {TYPES[name]} {name};" for name in TYPES if name in self.locals]
-        return [f"active proctype slot{self.own.slot}() {{", *variables, *self.text, "end_script:", "    false", "}"]
+        return ["", f"active proctype slot{self.own.slot}() {{", *variables, *self.text, "end_script:", *self.last(), "}"]
