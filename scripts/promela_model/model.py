@@ -12,9 +12,10 @@ ROW = 16
 MOST_BYTES, STATE = 8192, 16384
 HEAD = f"""/* A configuration as a model for SPIN, by scripts/promela. Each complete run prints an outcome, as a line:
 
-       spin -a MODEL; cc -DSAFETY -DNOREDUCE -DVECTORSZ={STATE} -o pan pan.c
-       ./pan -n | sed -n 's/^outcome: //p' | sort -u
+       spin -a MODEL; cc -DSAFETY -DNOREDUCE -DVECTORSZ={STATE} -o pan pan.c; ./pan -n -m1000000 >found
+       sed -n 's/^outcome: //p' found | sort -u; grep -E 'errors:|error:|Warning' found
 
+   They are all if the last command prints `errors: 0` alone.
    A step of a process is a turn of its slot. A poll of the arbiter that waits changes nothing, so it is no step. */"""
 REQUEST = """
 /* a request on a free bus is granted; else the slot waits until it finds that it has the bus */

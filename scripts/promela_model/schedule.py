@@ -12,7 +12,7 @@ MOST_TURNS = 10_000
 HEAD = f"""/* A configuration with its turns as a model for SPIN, by scripts/promela. Its run prints the report, as a line:
 
        spin -a MODEL; cc -DSAFETY -DNOREDUCE -DVECTORSZ={STATE} -o pan pan.c
-       ./pan -n -E -m100000 | sed -n 's/^report 0: //p'
+       ./pan -n -E -m1000000 | sed -n 's/^report 0: //p'
 
    The clock gives a slot a turn, and a step of the slot's process ends the turn. */"""
 REQUEST = """
