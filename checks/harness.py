@@ -3,6 +3,7 @@
 A check is a program of its own. It tells what it found by `expect`, and ends by `finish`; what keeps it from going on ends it by
 `fail`. Its last line, on standard output, says what was compared."""
 
+import os
 import shutil
 import subprocess
 import sys
@@ -111,8 +112,9 @@ def build_c(source: Path, program: Path, *options: str) -> None:
 
 
 def peak_of(program: object, *words: object) -> int:
-    """The most memory, in bytes, that a run holds which ends with status 0; 0 where there is no C compiler, or in node."""
-    if not shutil.which("cc") or in_node(program):
+    """The most memory, in bytes, that a run holds which ends with status 0; 0 where there is no C compiler, in node, and of a program
+    that is built without proofs, whose allocator keeps what is freed."""
+    if not shutil.which("cc") or in_node(program) or "UNPROVED" in os.environ:
         return 0
     with tempfile.TemporaryDirectory() as name:
         folder = Path(name)
