@@ -19,6 +19,7 @@ ROOT = pathlib.Path(__file__).resolve().parent.parent.parent
 sys.path.insert(0, str(ROOT / "scripts"))
 
 import kit
+import sources
 from narrow import narrow
 
 HERE = pathlib.Path(__file__).resolve().parent
@@ -133,9 +134,8 @@ def compiled(llvm: bytes) -> bytes:
 
 def stamp_of(name: str) -> str:
     """The sum of all that a program's module is made from: its sources, the kit, the C, and what builds it."""
-    loader = subprocess.run([sys.executable, ROOT / "scripts/sources", name], check=True, capture_output=True)
     version = subprocess.run(["rt", "version"], check=True, capture_output=True)
-    total = hashlib.sha256(loader.stdout + version.stdout)
+    total = hashlib.sha256(sources.sum_of(ROOT, name).encode() + version.stdout)
     for path in [*sorted(C.glob("*.c")), HERE / "module.py", HERE / "narrow.py"]:
         total.update(path.read_bytes())
     return total.hexdigest()
