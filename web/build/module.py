@@ -38,6 +38,8 @@ OF_C = ["-std=c11", "-O2", "-ffreestanding", "-nostdlib", "-fno-builtin", "-Wall
 INTRINSICS = re.compile(rb"@llvm\.(?!(?:memmove\.p0\.p0\.i64|memset\.p0\.i64|trap|ct(?:lz|tz|pop)\.i(?:8|16|32|64)"
                         rb"|arithmetic\.fence\.f64)\b(?![.\w]))[\w.]+")
 ASSEMBLY = re.compile(rb' asm (?!sideeffect "", "~\{memory\}"\(\))[^\n]*')
+# The hint that a processor spins, which has no effect on what is computed.
+PAUSE = re.compile(rb"^ *(?:(?:tail|notail|musttail) )?(?:call|declare) void @llvm\.x86\.sse2\.pause\(\)[^\n]*\n", re.M)
 OF_X86 = re.compile(rb' (?:sanitize_address|"(?:frame-pointer|probe-stack|stack-probe-size|target-cpu|target-features)"="[^"]*")')
 CATCHING_CLANG = """#!/bin/sh
 for it in "$@"; do
@@ -103,7 +105,8 @@ def clang(*words: object, given: bytes | None = None) -> bytes:
 
 
 def for_wasm(text: bytes) -> bytes:
-    """The text of an LLVM module for x86-64 as one for wasm64. What has no meaning there is refused."""
+    """The text of an LLVM module for x86-64 as one for wasm64. What has no meaning there is refused; a pause is left out."""
+    text = PAUSE.sub(b"", text)
     unknown = sorted({*INTRINSICS.findall(text), *ASSEMBLY.findall(text)})
     if unknown:
         raise Failed(f"the LLVM module has what is not known here: {b' '.join(unknown[:5]).decode(errors='replace')}")
