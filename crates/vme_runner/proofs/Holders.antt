@@ -97,7 +97,7 @@ same_who config a b lawful first second same =
     ]
 
 -- a transition that moves data over the bus is made by the processor of the holder
-over_bus : (config : Configuration) (system : SystemState) (who : ℕ) (event : Event) (reply : EventReply) → IsLawful config
+pub over_bus : (config : Configuration) (system : SystemState) (who : ℕ) (event : Event) (reply : EventReply) → IsLawful config
     → AllStand config system
     → AtTurn config system (move who event reply) → IsOverBus (call_of event)
     → system.machine.bus.object.holder ≡ Some (slot_at config who)
@@ -109,12 +109,12 @@ over_bus config system who (events.Board x cmd) reply lawful stand at over =
 over_bus config system who (events.Bus cmd) reply lawful stand at over = absurd over
 
 -- a transition that moves data over the bus does not give the bus back
-no_release : (event : Event) → IsOverBus (call_of event) → IsRelease event → ⊥
+pub no_release : (event : Event) → IsOverBus (call_of event) → IsRelease event → ⊥
 no_release (events.Board x cmd) over release = release
 no_release (events.Bus cmd) over release = over
 
 -- after a transition that does not give the bus back for the holder, the holder is the same
-held_after : (config : Configuration) (system : SystemState) (who : ℕ) (event : Event) (reply : EventReply) (slot : ℕ)
+pub held_after : (config : Configuration) (system : SystemState) (who : ℕ) (event : Event) (reply : EventReply) (slot : ℕ)
     → IsLawful config
     → AllStand config system → AtTurn config system (move who event reply) → system.machine.bus.object.holder ≡ Some slot
     → (slot_at config who ≡ slot → IsRelease event → ⊥)
@@ -127,7 +127,7 @@ held_after config system who (events.Bus cmd) reply slot lawful stand at held ke
     (λ s done same. kept (sym names ∙ ap slot_of done ∙ same) (subst (λ (c : ArbCmd). IsRelease (events.Bus c)) (sym done) tt))
 
 -- after transitions of which none gives the bus back for the holder, the holder is the same
-held_along : (config : Configuration) (who : ℕ) (between rest : List Transition) (system : SystemState) → IsLawful config
+pub held_along : (config : Configuration) (who : ℕ) (between rest : List Transition) (system : SystemState) → IsLawful config
     → who < length config.boards
     → AllStand config system → Along config system (between ++ rest)
     → system.machine.bus.object.holder ≡ Some (slot_at config who)

@@ -14,3 +14,8 @@ pub mod Runs
 pub mod Events
 pub mod Moving
 pub mod Followed
+pub mod OneAfterAnother
+pub mod LineData
+pub mod Splits
+pub mod LinePlaces
+pub mod Blocks

@@ -35,3 +35,4 @@ pub mod Granted
 pub mod TurnCalls
 pub mod Transitions
 pub mod OrderLaws
+pub mod TransferTenures
