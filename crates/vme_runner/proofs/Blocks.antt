@@ -1,8 +1,8 @@
 -- A block transfer has one tenure of the bus.
 use Rattle.std.proofs.Common.{◌≡◌, ℕ, ◌+◌, ◌≤◌, ◌<◌, List, [], ◌∷◌, ◌++◌, length, Some, refl, ap, sym, subst, ◌∙◌, append_assoc, length-append, arith, inl, inr}
-use Rattle.std.specs.Prelude.{All, ◌==◌}
+use Rattle.std.specs.Prelude.{All}
 use Rattle.std.proofs.lemmas.Bool.Decides.{eqb_tells}
-use Rattle.std.proofs.lemmas.List.Elements.{All-nil, All-cons, All-head, All-tail, All-weaker, filter-append}
+use Rattle.std.proofs.lemmas.List.Elements.{All-nil, All-cons, All-head, All-tail, All-weaker}
 use Rattle.vme_cycle.specs.declared.request.Request.{Request}
 use Rattle.vme_core.specs.declared.event.EventReply.{EventReply}
 use Rattle.vme_core.specs.Runs.{Machine, Transition}
@@ -67,7 +67,7 @@ holder_stays_along config report is before first later m lawful whole over kept 
     let end = held_along config m.who first later next lawful at.there stand place.along.1
     (ap (λ (w : Machine). w.bus.object.holder) moved_once ∙ still) kept in
     let before_is : (machine_step system.machine m.who (call_of m.event)).0
-        ≡ (machine_step (machine_after config before) m.who (call_of m.event)).0 =
+    ≡ (machine_step (machine_after config before) m.who (call_of m.event)).0 =
     ap (λ (w : Machine). (machine_step w m.who (call_of m.event)).0) place.machine in
     let machine_is : (take_turns config next (slots_of config first)).machine ≡ machine_after config (before ++ m ∷ first) =
     moved config first later next place.along.1 ∙ ap (λ (w : Machine). performed w first) (moved_once ∙ before_is)

@@ -75,20 +75,20 @@ find config board (line ∷ lines) moves (answer ∷ more) n trace less =
     let count : length moves ≡ length first + length rest = ap length trace.2 ∙ length-append first rest in
     elim (below_or n (length first)) [
       | inl here ↦ record {
-          index = 0;
-          line = line;
-          earlier = [];
-          own = first;
-          later = rest;
-          found = refl;
-          answers = [];
-          before = refl;
-          answer = answer;
-          trace = trace.3;
-          whole = trace.2;
-          begins = omega arith;
-          to = omega (arith, here);
-        }
+        index = 0;
+        line = line;
+        earlier = [];
+        own = first;
+        later = rest;
+        found = refl;
+        answers = [];
+        before = refl;
+        answer = answer;
+        trace = trace.3;
+        whole = trace.2;
+        begins = omega arith;
+        to = omega (arith, here);
+      }
       | inr past ↦
           let same : n ≡ length first + past.0 = past.1 in
           let one : IsFound config board lines rest past.0 = find config board lines rest more past.0 trace.4 (omega (arith, count, same, less)) in

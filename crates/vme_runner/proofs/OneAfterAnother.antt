@@ -1,17 +1,16 @@
 -- Between two data a transfer makes no call but those of data.
-use Rattle.std.proofs.Common.{◌≡◌, ℕ, ◌+◌, List, [], ◌∷◌, ◌++◌, Option, Some, None, refl, ap, sym, subst, ◌∙◌, inl, inr, ◌⊎◌}
+use Rattle.std.proofs.Common.{ℕ, [], ◌∷◌, ◌++◌, Option, Some, None, inl, inr, ◌⊎◌}
 use Rattle.std.specs.Prelude.{All, nat_lt}
 use Rattle.std.proofs.lemmas.Bool.{cases_Bool}
 use Rattle.std.proofs.lemmas.List.Elements.{All-nil, All-cons}
 use Rattle.vme_cycle.specs.Requests.{count_of}
 use Rattle.vme_memory.specs.declared.reply.Reply.{Reply}
 use Rattle.vme_memory.specs.declared.reply.Reply.TheVariants.{Bytes, Done, Berr}
-use Rattle.vme_memory.specs.Steps.{Command}
 use Rattle.vme_arbiter.specs.declared.command.ArbCmd.TheVariants as arb_commands
 use Rattle.vme_arbiter.specs.declared.command.ArbReply.TheVariants as arb_replies
 use Rattle.vme_core.specs.declared.event.EventReply.{EventReply}
 use Rattle.vme_core.specs.declared.event.EventReply.TheVariants as replies
-use Rattle.vme_core.specs.Calls.{Call, OnBoard, OnBus}
+use Rattle.vme_core.specs.Calls.{OnBoard, OnBus}
 use Rattle.vme_core.specs.NextSteps.{NextStep, NotStarted, Invokes, Returns}
 use Rattle.vme_master.specs.declared.job.BusJob.{BusJob}
 use Rattle.vme_master.specs.declared.job.Job.TheVariants.{Bus}

@@ -1,5 +1,5 @@
 -- Lists that are two appended lists in two ways.
-use Rattle.std.proofs.Common.{◌≡◌, ℕ, zero, suc, ◌+◌, ◌≤◌, ◌<◌, List, [], ◌∷◌, ◌++◌, length, refl, ap, sym, ◌∙◌, append_assoc, length-append, arith}
+use Rattle.std.proofs.Common.{◌≡◌, suc, ◌+◌, ◌≤◌, ◌<◌, List, [], ◌∷◌, ◌++◌, length, refl, ap, sym, ◌∙◌, append_assoc, length-append, arith}
 use Rattle.std.specs.Prelude.{All}
 use Rattle.std.proofs.lemmas.List.Elements.{All-nil, All-cons, All-head, All-tail}
 
@@ -32,21 +32,21 @@ pub is_amid : {X : Type 0} (before between after earlier own later : List X) (m 
     → before ++ m ∷ (between ++ n ∷ after) ≡ earlier ++ (own ++ later) → length earlier ≤ length before
     → length before + 1 + length between < length earlier + length own → IsAmid before between earlier own m n
 is_amid before between after earlier own later m n same begins to =
-    let front = is_more before (m ∷ (between ++ n ∷ after)) earlier (own ++ later) same begins in
-    let head = front.more ++ m ∷ (between ++ n ∷ []) in
+    let head_part = is_more before (m ∷ (between ++ n ∷ after)) earlier (own ++ later) same begins in
+    let head = head_part.more ++ m ∷ (between ++ n ∷ []) in
     let split : own ++ later ≡ head ++ after =
-    sym front.last ∙ ap (λ l. front.more ++ m ∷ l) (sym (append_assoc between (n ∷ []) after))
-    ∙ sym (append_assoc front.more (m ∷ (between ++ n ∷ [])) after) in
-    let count : length head ≡ length front.more + (length between + 2) =
-    length-append front.more (m ∷ (between ++ n ∷ [])) ∙ ap (λ k. length front.more + suc k) (length-append between (n ∷ [])) ∙ omega arith in
-    let long : length before ≡ length earlier + length front.more = ap length front.first ∙ length-append earlier front.more in
-    let back = is_more own later head after split (omega (arith, count, long, to)) in
+    sym head_part.last ∙ ap (λ l. head_part.more ++ m ∷ l) (sym (append_assoc between (n ∷ []) after))
+    ∙ sym (append_assoc head_part.more (m ∷ (between ++ n ∷ [])) after) in
+    let count : length head ≡ length head_part.more + (length between + 2) =
+    length-append head_part.more (m ∷ (between ++ n ∷ [])) ∙ ap (λ k. length head_part.more + suc k) (length-append between (n ∷ [])) ∙ omega arith in
+    let long : length before ≡ length earlier + length head_part.more = ap length head_part.first ∙ length-append earlier head_part.more in
+    let tail_part = is_more own later head after split (omega (arith, count, long, to)) in
     record {
-      first = front.more;
-      rest = back.more;
-      begins = front.first;
-      whole = back.first ∙ append_assoc front.more (m ∷ (between ++ n ∷ [])) back.more
-          ∙ ap (λ l. front.more ++ m ∷ l) (append_assoc between (n ∷ []) back.more);
+      first = head_part.more;
+      rest = tail_part.more;
+      begins = head_part.first;
+      whole = tail_part.first ∙ append_assoc head_part.more (m ∷ (between ++ n ∷ [])) tail_part.more
+          ∙ ap (λ l. head_part.more ++ m ∷ l) (append_assoc between (n ∷ []) tail_part.more);
     }
 
 -- a property holds of all elements if it holds of each, by what comes before it and after it
