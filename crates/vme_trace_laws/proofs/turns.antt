@@ -2,6 +2,7 @@ pub mod Elements
 pub mod Views
 pub mod LineViews
 pub mod Jobs
+pub mod Requested
 pub mod Turns
 pub mod Runs
 pub mod Counts
@@ -22,3 +23,4 @@ pub mod Orders
 pub mod AddressStrobes
 pub mod RunStrobes
 pub mod BusStrobes
+pub mod Granted

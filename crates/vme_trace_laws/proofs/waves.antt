@@ -16,3 +16,4 @@ pub mod Rules
 pub mod EventEnds
 pub mod SlotEnds
 pub mod Polls
+pub mod Grants

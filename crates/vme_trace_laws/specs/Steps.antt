@@ -12,6 +12,7 @@ use Rattle.vme_trace.specs.declared.observation.activity.Activity.{Activity}
 use Rattle.vme_trace.specs.declared.observation.activity.Activity.TheVariants.{Requests, Polls, Releases, Transfers, Local, Other}
 use Rattle.vme_trace.specs.declared.observation.Observation.{Observation}
 use Rattle.vme_trace.specs.Grants.{grant_of}
+use Rattle.vme_trace_laws.specs.Commands.{IsTransferShown}
 
 -- what the processor of a board with this index, slot and level is shown to do is its call: a command of its slot to the
 -- arbiter, a command to the selected board, or its command to its own local port
@@ -23,7 +24,8 @@ IsShownAs board slot level (Transfers datum) call = (command : Option Command) �
 IsShownAs board slot level (Local cmd) call = call ≡ OnBoard board (command_given cmd)
 IsShownAs board slot level Other call = ⊥
 
--- an event is one step of the machine: its processor's call, which it shows, with the reply and the grant
+-- an event is one step of the machine: its processor's call, which it shows, with the reply and the grant; in a transfer it
+-- shows the datum whose command the call is
 pub record IsStepShown (config : Configuration) (before : Machine) (o : Observation) (after : Machine) : Type 0 where
   pub call : Call
   pub there : o.board < length config.boards
@@ -31,6 +33,7 @@ pub record IsStepShown (config : Configuration) (before : Machine) (o : Observat
   pub slot : o.slot ≡ slot_at config o.board
   pub level : o.level ≡ level_at config o.board
   pub shown : IsShownAs o.board (slot_at config o.board) (level_at config o.board) o.activity call
+  pub datum : IsTransferShown config o.activity call
   pub step : (after, o.reply) ≡ machine_step before o.board call
   pub grant : o.grant ≡ grant_of config o.activity o.reply after.bus.object
 

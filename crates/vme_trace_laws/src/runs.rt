@@ -25,8 +25,9 @@ ghost use Rattle.vme_trace.specs.Shown.{value_after_run, value_in_run};
 use crate::events::events_end_at_rest;
 
 /// States that each event is shown once. The events of turns of any slots are the steps of a run of
-/// the machine, in order. Each board's memory has made as many steps, which the report prints, as
-/// events are shown on the board, and the arbiter as many as events are shown on it.
+/// the machine, in order; one of a transfer shows the datum whose command the step is. Each board's
+/// memory has made as many steps, which the report prints, as events are shown on the board, and the
+/// arbiter as many as events are shown on it.
 pub fn each_event_is_shown_once()
     ensures run { (config : Configuration) (slots : List ℕ) → IsRunShown config
         (initial_state config).machine (observations config slots) (state_after config slots).machine }

@@ -233,7 +233,7 @@ module _ (config : Configuration) (lawful : IsLawful config) where
         (release_edge o.activity) (grant_edge o.activity + 1) k early) ∙ low)
 
   -- the event after the first ones of a run is one step of the machine
-  split_run : (before : Machine) (events later : List Observation) (o : Observation) (after : Machine) → IsRunShown config before (events ++ o ∷ later) after
+  pub split_run : (before : Machine) (events later : List Observation) (o : Observation) (after : Machine) → IsRunShown config before (events ++ o ∷ later) after
       → (here : Machine) × (next : Machine) × IsRunShown config before events here × IsStepShown config here o next
   split_run before [] later o after run = (before, run.0, refl, run.1)
   split_run before (e ∷ events) later o after run =

@@ -58,13 +58,13 @@ all_found P test (y ∷ xs) x found each =
 
 module _ (config : Configuration) (lawful : IsLawful config) where
   -- a slot has a board
-  abbrev HasBoard : ℕ → Type 0
+  abbrev pub HasBoard : ℕ → Type 0
   HasBoard slot = is_some (board_in_slot config slot) ≡ true
 
   -- the holder of the bus and the slots that wait for it have boards
-  record IsSeated (bus : Arbitration) : Type 0 where
-    holder : IfSome bus.holder HasBoard
-    pending : All (λ r. HasBoard r.slot) bus.pending
+  pub record IsSeated (bus : Arbitration) : Type 0 where
+    pub holder : IfSome bus.holder HasBoard
+    pub pending : All (λ r. HasBoard r.slot) bus.pending
 
   -- the slot of a board has a board
   own_seat : (board : ℕ) → board < length config.boards → HasBoard (slot_at config board)
@@ -235,7 +235,7 @@ module _ (config : Configuration) (lawful : IsLawful config) where
       ∙ run_holder run.0 events after (n + 1) run.2 held.seated
 
   -- BBSY* after some events
-  run_bus_busy : (before : Machine) (events : List Observation) (after : Machine) (n : ℕ) → IsRunShown config before events after → IsSeated before.bus.object
+  pub run_bus_busy : (before : Machine) (events : List Observation) (after : Machine) (n : ℕ) → IsRunShown config before events after → IsSeated before.bus.object
       → after_events bus_busy_line (length config.boards) n events (level_of (is_none before.bus.object.holder)) ≡ level_of (is_none after.bus.object.holder)
   run_bus_busy before [] after n same seated = ap (λ (m : Machine). level_of (is_none m.bus.object.holder)) (sym same)
   run_bus_busy before (o ∷ events) after n run seated =
@@ -248,7 +248,7 @@ module _ (config : Configuration) (lawful : IsLawful config) where
       ∙ run_bus_busy run.0 events after (n + 1) run.2 held.seated
 
   -- at the start no slot holds the bus or waits
-  opening_seated : IsSeated (initial_state config).machine.bus.object
+  pub opening_seated : IsSeated (initial_state config).machine.bus.object
   opening_seated = record { holder = tt; pending = All-nil (λ r. HasBoard r.slot) }
 
   -- the holder after a run

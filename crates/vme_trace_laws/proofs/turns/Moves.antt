@@ -40,7 +40,7 @@ use Rattle.vme_trace.specs.declared.observation.activity.Activity.TheVariants.{R
 use Rattle.vme_trace.specs.Activities.{transferred, board_activity, activity_of}
 use Rattle.vme_trace.specs.declared.dump.handshake.Handshake.{Handshake}
 use Rattle.vme_trace.specs.Handshakes.{first_handshake, second_handshake}
-use Rattle.vme_trace.specs.Slots.{ends_with}
+use Rattle.vme_trace.specs.Slots.{releases, ends_with}
 use Rattle.vme_trace_laws.proofs.turns.Busy.{board_bus}
 use Rattle.vme_trace_laws.proofs.turns.Turns.{own_call}
 use Rattle.vme_trace_laws.proofs.turns.Jobs.{IsOwnJob, IsOwnTask, IsOwnView, own_view}
@@ -62,10 +62,11 @@ IsShownSo None ended v w = (amid v ≡ false) × (amid w ≡ false)
 IsShownSo (Some t) ended v w = (holding v ≡ true) × (t.opens ≡ not (amid v)) × (amid w ≡ not ended)
 
 -- a call of a processor: another slot keeps the bus unless this one held it, this one holds it only if the arbiter has it as
--- holder, and the event shows its transfer
+-- holder, it held it before a release, and the event shows its transfer
 pub record IsMove (slot : ℕ) (v w : Option TaskView) (before after : Arbitration) (activity : Activity) (reply : EventReply) : Type 0 where
   pub others : (other : ℕ) → before.holder ≡ Some other → (after.holder ≡ Some other) ⊎ (holding v ≡ true)
   pub own : (holding v ≡ true → before.holder ≡ Some slot) → holding w ≡ true → after.holder ≡ Some slot
+  pub releasing : releases activity ≡ true → holding v ≡ true
   pub shown : IsShownSo (first_handshake activity reply) (ended_by activity reply) v w
 
 -- the same, in terms of the processor before it and after it
@@ -74,6 +75,7 @@ pub move_like : (slot : ℕ) (v v' w w' : Option TaskView) (before after : Arbit
 move_like slot v v' w w' before after activity reply first second move = record {
   others = λ other held. elim (move.others other held) [ inl kept ↦ inl kept | inr mine ↦ inr (sym first.held ∙ mine) ];
   own = λ was now. move.own (λ mine. was (sym first.held ∙ mine)) (sym second.held ∙ now);
+  releasing = λ is. sym first.held ∙ move.releasing is;
   shown = shown_like (first_handshake activity reply) (ended_by activity reply) move.shown;
 }
   where
@@ -109,6 +111,7 @@ datum_moves : (slot board : ℕ) (job : BusJob) (i : ℕ) (read : List ℕ) (rep
 datum_moves slot board job i read reply bus placed less form = record {
   others = λ other held. inl held;
   own = λ was now. was refl;
+  releasing = λ is. refl;
   shown = datum_shown_so board job i read reply placed less form;
 }
 
@@ -125,6 +128,7 @@ module _ (machine : Machine) (who : ℕ) where
       let bus = machine.bus.object in record {
         others = λ other held. inl (ask_keeps bus job.slot job.level other held);
         own = λ was now. ask_grants bus job.slot job.level (answered_grants job (ask_step bus job.slot job.level).1 now);
+        releasing = λ is. absurd (false≢true is);
         shown = (refl, answered_amid job (ask_step bus job.slot job.level).1);
       }
 
@@ -134,6 +138,7 @@ module _ (machine : Machine) (who : ℕ) where
       let bus = machine.bus.object in record {
         others = λ other held. inl held;
         own = λ was now. look_grants bus job.slot (answered_grants job (look_step bus job.slot).1 now);
+        releasing = λ is. absurd (false≢true is);
         shown = (refl, answered_amid job (look_step bus job.slot).1);
       }
 
@@ -154,6 +159,7 @@ module _ (machine : Machine) (who : ℕ) where
       let reply = (done_step bus job.slot).1 in record {
         others = λ other held. inr refl;
         own = λ was now. absurd (false≢true (sym (released_holds job berr read reply) ∙ now));
+        releasing = λ is. refl;
         shown = rw found (release_shown job berr read reply (is_some job.place) (signals_of job.transfer 0));
       }
 
@@ -200,6 +206,11 @@ module _ (machine : Machine) (who : ℕ) where
   local_shown_so x None reply v w before after = (before, after)
   local_shown_so x (Some cmd) reply v w before after = (before, after)
 
+  -- and no release
+  local_releases : (x : ℕ) (cmd : Option BoardCmd) (held : Bool) → releases (board_activity x None cmd) ≡ true → held ≡ true
+  local_releases x None held is = absurd (false≢true is)
+  local_releases x (Some cmd) held is = absurd (false≢true is)
+
   -- a command to a local port
   port_moves : (slot : ℕ) (task : LineTask) (job : LocalJob) (phase : Phase) (read : List ℕ) → line_datum task ≡ None
       → Moves slot task (task_of (Local job) phase read) (local_call job)
@@ -209,6 +220,7 @@ module _ (machine : Machine) (who : ℕ) where
       let same : made.0.bus ≡ machine.bus = board_bus machine who job.board (command_given job.cmd) (slice_get machine.boards job.board) in record {
         others = λ other held. inl (ap (λ (bus : CountedState Arbitration). bus.object.holder) same ∙ held);
         own = λ was now. absurd (false≢true (sym (local_holds job phase read (Some made.1)) ∙ now));
+        releasing = rw found (local_releases job.board (line_command task) (holding (Some (task_of (Local job) phase read))));
         shown = rw found (local_shown_so job.board (line_command task) made.1 (Some (task_of (Local job) phase read)) w refl
             (local_amid job phase read (Some made.1)));
       }

@@ -36,7 +36,7 @@ levels_below (board ∷ boards) each (suc i) = levels_below boards (λ j other f
 
 module _ (config : Configuration) (lawful : IsLawful config) where
   -- the level of a board
-  level_below : (board : ℕ) → level_at config board ≤ 3
+  pub level_below : (board : ℕ) → level_at config board ≤ 3
   level_below board = levels_below config.boards lawful.boards board
 
   -- the level of a grant to a slot

@@ -1,5 +1,5 @@
 -- Each event of a run belongs to the transfer of the processor that holds the bus, if it belongs to one.
-use Rattle.std.proofs.Common.{◌≡◌, ℕ, ◌<◌, List, [], ◌∷◌, ◌++◌, length, Option, Some, None, refl, ap, sym, subst, ◌∙◌, arith, inl, inr}
+use Rattle.std.proofs.Common.{◌≡◌, ℕ, ◌<◌, List, [], ◌∷◌, ◌++◌, length, Option, Some, None, true, refl, ap, sym, subst, ◌∙◌, arith, inl, inr}
 use Rattle.std.specs.Prelude.{slice_get, option_map}
 use Rattle.std.specs.Option.{option_and_then, option_to_list}
 use Rattle.std.proofs.lemmas.Bool.{false≢true}
@@ -17,6 +17,7 @@ use Rattle.vme_trace.specs.Observations.{observed, observed_at, observed_from, o
 use Rattle.vme_trace.specs.declared.dump.handshake.Handshake.{Handshake}
 use Rattle.vme_trace.specs.Handshakes.{first_handshake}
 use Rattle.vme_trace_laws.specs.Transfers.{open_after}
+use Rattle.vme_trace.specs.Slots.{releases}
 use Rattle.vme_trace_laws.specs.Steps.{IsStepShown}
 use Rattle.vme_trace_laws.proofs.turns.Elements.{get_map}
 use Rattle.vme_trace_laws.proofs.turns.Turns.{processors_get, IsTurnShown, turn_shown}
@@ -29,12 +30,13 @@ use Rattle.vme_trace_laws.proofs.turns.Walks.{view_at, IsTurn, system_turn}
 
 module _ (config : Configuration) where
   -- an event begins its transfer when none is open, or belongs to the open one; both are of the slot that holds the bus; an
-  -- event without a handshake is of another processor than the open transfer
+  -- event without a handshake is of another processor than the open transfer; a release is by the slot that holds the bus
   pub record IsInOrder (machine : Machine) (going : Option ℕ) (o : Observation) : Type 0 where
     pub opening : IsOpening going o
     pub own : (t : Handshake) → first_handshake o.activity o.reply ≡ Some t
         → (o.board < length config.boards) × (machine.bus.object.holder ≡ Some (slot_at config o.board))
     pub open_holds : (b : ℕ) → going ≡ Some b → (b < length config.boards) × (machine.bus.object.holder ≡ Some (slot_at config b))
+    pub release : releases o.activity ≡ true → machine.bus.object.holder ≡ Some (slot_at config o.board)
     pub apart : (b : ℕ) → going ≡ Some b → first_handshake o.activity o.reply ≡ None → o.board ≡ b → ⊥
 
   -- events are the steps of a run of the machine, each in order
@@ -77,6 +79,7 @@ module _ (config : Configuration) (lawful : IsLawful config) where
           own = λ t first. own_holds config lawful before.machine.bus.object (view_at before) going sound o (view_at after o.board) t
               (first_handshake o.activity o.reply) first move.shown;
           open_holds = λ b is. going_holds config lawful before.machine.bus.object (view_at before) going sound b is;
+          release = λ is. (sound.held o.board (move.releasing is)).1;
           apart = λ b is none same. going_apart config lawful before.machine.bus.object (view_at before) going sound o (view_at after o.board) b
               (first_handshake o.activity o.reply) is none move.shown same;
         },

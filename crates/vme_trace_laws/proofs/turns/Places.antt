@@ -23,7 +23,7 @@ abbrev slot_in : BoardConfig → ℕ
 slot_in board = board.slot
 
 -- the board in a slot is one whose slot it is
-named_slot : (boards : List BoardConfig) (slot found : ℕ) → position (λ b. b.slot == slot) boards ≡ Some found
+pub named_slot : (boards : List BoardConfig) (slot found : ℕ) → position (λ b. b.slot == slot) boards ≡ Some found
     → slice_index_or (map slot_in boards) found 0 ≡ slot
 named_slot [] slot found is = absurd (cc is)
 named_slot (first ∷ boards) slot found is =

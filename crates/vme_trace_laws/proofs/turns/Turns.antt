@@ -27,6 +27,7 @@ use Rattle.vme_shared.specs.declared.outcome.SharedOutcome.TheVariants as outcom
 use Rattle.vme_shared.specs.Tables.{SharedJob, task_shown}
 use Rattle.vme_shared.specs.Machine.{current_to_do}
 use Rattle.vme_grammar.specs.declared.line.Line.{Line}
+use Rattle.vme_script.specs.Boards.{entries_of}
 use Rattle.vme_script.specs.Configurations.{Configuration}
 use Rattle.vme_master.specs.Tables.{Inputs}
 use Rattle.vme_line_task.specs.declared.task.LineTask.{LineTask}
@@ -47,8 +48,11 @@ use Rattle.vme_trace.specs.declared.observation.Observation.{Observation}
 use Rattle.vme_trace.specs.Activities.{activity_of}
 use Rattle.vme_trace.specs.Observations.{observed_by, line_observed, observed}
 use Rattle.vme_trace_laws.specs.Steps.{IsShownAs, IsStepShown}
+use Rattle.vme_trace_laws.proofs.turns.Data.{IsDue, given_due}
 use Rattle.vme_trace_laws.proofs.turns.Elements.{get_set}
 use Rattle.vme_trace_laws.proofs.turns.Jobs.{IsOwnTransfer, IsOwnJob, IsOwnCurrent, IsOwnAttempt, IsOwnTask, given_own}
+use Rattle.vme_trace_laws.proofs.turns.Requested.{IsRequestedTask, given_requested, line_shows}
+use Rattle.vme_trace_laws.proofs.turns.Views.{line_view}
 
 -- the call of a next step
 pub own_call : (a b : Call) → ◌≡◌ {A = NextStep Outcome} (Invokes a) (Invokes b) → a ≡ b
@@ -231,6 +235,8 @@ module _ (config : Configuration) (board : ℕ) (machine : Machine) where
     level = refl;
     shown = task_shown_as board (slot_at config board) (level_at config board) task call
         (subst (IsOwnTask board (slot_at config board) (level_at config board)) (sym is) (given_own config board line given)) same;
+    datum = line_shows config task call (subst (IsRequestedTask (entries_of config.boards)) (sym is) (given_requested config board line given))
+        (subst (λ (one : LineTask). IsDue (line_view one)) (sym is) (given_due config board line given)) same;
     step = refl;
     grant = refl;
   }

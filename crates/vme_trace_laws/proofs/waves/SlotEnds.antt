@@ -25,7 +25,7 @@ use Rattle.vme_trace_laws.specs.Events.{IsPortLine}
 use Rattle.vme_trace_laws.proofs.waves.Afters.{other, own, last_own, silent, after_append}
 use Rattle.vme_trace_laws.proofs.waves.Pulses.{pulse}
 use Rattle.vme_trace_laws.proofs.waves.Quiet.{none_quiet, if_quiet, append_quiet}
-use Rattle.vme_trace_laws.proofs.waves.Values.{at_pulse, pulse_late}
+use Rattle.vme_trace_laws.proofs.waves.Values.{pulse_at, at_pulse, pulse_late}
 use Rattle.vme_trace_laws.proofs.waves.Slots.{IsNoPort, line_quiet, request_quiet, chain_quiet, busy_quiet, select_quiet, port_quiet, chip_quiet, control_quiet, bytes_quiet, reply_quiet, slot_part}
 use Rattle.vme_trace_laws.proofs.waves.Joined.{same_at, stays_at, late_at}
 use Rattle.vme_trace_laws.proofs.waves.EventLines.{pulse_still, rest_by}
@@ -67,14 +67,23 @@ module _ (o : Observation) (board : ℕ) where
       own (slot_code board 99) k (passes_grant o.grant board) (grant_edge o.activity) (Grants (grant_lines o.grant)) _ v (own_code board 99)
       ∙ last_own (slot_code board 99) k (passes_grant o.grant board) (grant_edge o.activity + 3) (Grants 15) _ (own_code board 99)
 
+  -- the grant lines at an edge of an event
+  pub chain_at : (boards n : ℕ) → board < boards → (k : ℕ) (before : Value)
+      → value_at (slot_code board 99) (event_changes boards n o) before k
+      ≡ pulse_at (Grants (grant_lines o.grant)) (Grants 15) (passes_grant o.grant board) (passes_grant o.grant board) (grant_edge o.activity)
+      (grant_edge o.activity + 3) k before
+  chain_at boards n there k before =
+      let passes = passes_grant o.grant board in
+      at_pulse (slot_code board 99) (event_changes boards n o) (Grants (grant_lines o.grant)) (Grants 15) before passes passes
+      (grant_edge o.activity) (grant_edge o.activity + 3) (omega arith)
+      (λ i v. slot_part 99 boards n o board there i v ∙ chain_of_slot i v ∙ chain_own i v) k
+
   -- after an event no grant line is low
   pub chain_rests : (boards n : ℕ) → board < boards → value_at (slot_code board 99) (event_changes boards n o) (Grants 15) 19 ≡ Grants 15
   chain_rests boards n there =
       let passes = passes_grant o.grant board in
       let over = chain_within o.activity in
-      at_pulse (slot_code board 99) (event_changes boards n o) (Grants (grant_lines o.grant)) (Grants 15) (Grants 15) passes passes
-      (grant_edge o.activity) (grant_edge o.activity + 3) (omega arith)
-      (λ k v. slot_part 99 boards n o board there k v ∙ chain_of_slot k v ∙ chain_own k v) 19
+      chain_at boards n there 19 (Grants 15)
       ∙ pulse_late (Grants (grant_lines o.grant)) (Grants 15) (Grants 15) passes passes (grant_edge o.activity) (grant_edge o.activity + 3) 19
       (le-leb (grant_edge o.activity) 19 (omega (arith, leb-true (grant_edge o.activity + 3) 19 over))) over
       ∙ rest_by passes (Grants (grant_lines o.grant)) (Grants 15)

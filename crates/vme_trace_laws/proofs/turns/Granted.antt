@@ -1,0 +1,479 @@
+-- A grant goes to a slot that requests the bus, while BBSY* is high.
+use Rattle.std.proofs.Common.{◌≡◌, ℕ, ◌+◌, ◌<◌, ◌≤◌, ◌==◌, ◌&&◌, ◌||◌, Bool, true, false, if◌then◌else◌, List, [], ◌∷◌, ◌++◌, length, Option, Some, None, refl, ap, sym, subst, ◌∙◌, arith, inl, inr, ◌⊎◌}
+use Rattle.std.specs.Prelude.{slice_get, nat_le, nat_lt, find, option_map, is_some, is_none}
+use Rattle.std.specs.List.{list_any}
+use Rattle.std.specs.Option.{option_and_then, option_map_or}
+use Rattle.std.proofs.lemmas.Bool.{cases_Bool, false≢true, eq-eqb, ne_eqb, le-leb, lt-leb}
+use Rattle.std.proofs.lemmas.Bool.Decides.{eqb_tells}
+use Rattle.std.proofs.lemmas.Option.{same_Some}
+use Rattle.vme_memory.specs.Locals.{command_given}
+use Rattle.vme_arbiter.specs.declared.command.ArbCmd.TheVariants as commands
+use Rattle.vme_arbiter.specs.declared.command.ArbReply.TheVariants as arb_replies
+use Rattle.vme_arbiter.specs.Requests.{BusRequest, bus_request, with_request, without_slot}
+use Rattle.vme_arbiter.specs.Arbitration.{Arbitration, holds, pends, can_ask, lawful_ask, ask_step, bus_after_release, next_of, done_step}
+use Rattle.vme_arbiter.specs.Orderly as arbiter
+use Rattle.vme_arbiter.proofs.lemmas.Orderly.{orderly-step, orderly-opening}
+use Rattle.vme_core.specs.declared.event.EventReply.{EventReply}
+use Rattle.vme_core.specs.declared.event.EventReply.TheVariants as replies
+use Rattle.vme_core.specs.CountedStates.{CountedState}
+use Rattle.vme_core.specs.Runs.{Machine}
+use Rattle.vme_core.specs.Calls.{Call, OnBoard, OnBus, machine_step}
+use Rattle.vme_script.specs.Configurations.{Configuration}
+use Rattle.vme_script.specs.Lawful.{IsLawful}
+use Rattle.vme_line_task.specs.Scripts.{slot_at, level_at}
+use Rattle.vme_stepper.specs.Turns.{board_in_slot, initial_state, state_after}
+use Rattle.vme_trace.specs.declared.observation.activity.Activity.{Activity}
+use Rattle.vme_trace.specs.declared.observation.activity.Activity.TheVariants.{Requests, Polls, Releases, Transfers, Local, Other}
+use Rattle.vme_trace.specs.declared.observation.grant.Grant.{Grant}
+use Rattle.vme_trace.specs.declared.observation.Observation.{Observation}
+use Rattle.vme_trace.specs.Grants.{grant, grant_to, grant_of}
+use Rattle.vme_trace.specs.Observations.{observations}
+use Rattle.vme_trace.specs.declared.dump.change.Value.{Value}
+use Rattle.vme_trace.specs.declared.dump.change.Value.TheVariants.{Low, High}
+use Rattle.vme_trace.specs.Changes.{level_of}
+use Rattle.vme_trace.specs.Slots.{requests, releases, release_edge, grant_edge, is_granted}
+use Rattle.vme_trace.specs.Shown.{after_event, after_events, value_after_run, value_in_run}
+use Rattle.vme_trace_laws.specs.Grants.{request_line}
+use Rattle.vme_trace_laws.specs.Transfers.{open_after}
+use Rattle.vme_trace_laws.specs.Values.{bus_busy_line}
+use Rattle.vme_trace_laws.specs.Steps.{IsShownAs, IsStepShown, IsRunShown}
+use Rattle.vme_trace_laws.proofs.waves.Arbitration.{bus_busy_at}
+use Rattle.vme_trace_laws.proofs.waves.Grants.{request_at}
+use Rattle.vme_trace_laws.proofs.waves.Values.{pulse_late, pulse_early}
+use Rattle.vme_trace_laws.proofs.turns.Arbiter.{grants, ask_grants}
+use Rattle.vme_trace_laws.proofs.turns.Busy.{board_bus, split_run}
+use Rattle.vme_trace_laws.proofs.turns.Holders.{run_bus_busy, opening_seated}
+use Rattle.vme_trace_laws.proofs.turns.Numbers.{has_levels, level_below}
+use Rattle.vme_trace_laws.proofs.turns.Orders.{IsOrderly, run_orderly}
+use Rattle.vme_trace_laws.proofs.turns.Places.{named_slot, same_board, holder_granted}
+use Rattle.vme_trace_laws.proofs.turns.Runs.{place_below, run_shown}
+
+-- whether a list has a request of a slot
+abbrev asks : ℕ → List BusRequest → Bool
+asks slot pending = list_any (λ r. r.slot == slot) pending
+
+-- one more request of another slot
+asks_with : (new : BusRequest) (pending : List BusRequest) (slot : ℕ) → (new.slot == slot) ≡ false → asks slot (with_request new pending) ≡ asks slot pending
+asks_with new [] slot apart = rw apart refl
+asks_with new (r ∷ pending) slot apart =
+    elim (cases_Bool (nat_lt new.slot r.slot)) [
+      | inl first ↦ rw (first, apart) refl
+      | inr later ↦ rw later (ap (λ more. (r.slot == slot) || more) (asks_with new pending slot apart))
+    ]
+
+-- without the requests of a slot it has none
+asks_none : (slot : ℕ) (pending : List BusRequest) → asks slot (without_slot slot pending) ≡ false
+asks_none slot [] = refl
+asks_none slot (r ∷ pending) =
+    elim (cases_Bool (r.slot == slot)) [
+      | inl own ↦ rw own (asks_none slot pending)
+      | inr other ↦ rw other (rw other (asks_none slot pending))
+    ]
+
+-- a request that remains was there
+asks_before : (gone slot : ℕ) (pending : List BusRequest) → asks slot (without_slot gone pending) ≡ true → asks slot pending ≡ true
+asks_before gone slot [] is = is
+asks_before gone slot (r ∷ pending) is =
+    elim (cases_Bool (r.slot == slot)) [
+      | inl own ↦ rw own refl
+      | inr other ↦ rw other (asks_before gone slot pending (rest other))
+    ]
+  where
+    rest : (r.slot == slot) ≡ false → asks slot (without_slot gone pending) ≡ true
+    rest other =
+        elim (cases_Bool (r.slot == gone)) [
+          | inl removed ↦ rw removed at is
+          | inr kept ↦ rw other at (rw kept at is)
+        ]
+
+-- a request that is found is there
+asks_found : (test : BusRequest → Bool) (pending : List BusRequest) (r : BusRequest) → find test pending ≡ Some r → asks r.slot pending ≡ true
+asks_found test [] r found = absurd (cc found)
+asks_found test (x ∷ pending) r found =
+    elim (cases_Bool (test x)) [
+      | inl here ↦
+          let same : x ≡ r = same_Some x r (rw here at found) in
+          let own : (x.slot == r.slot) ≡ true = eq-eqb x.slot r.slot (ap (λ (one : BusRequest). one.slot) same) in
+          rw own refl
+      | inr later ↦
+          let more : asks r.slot pending ≡ true = asks_found test pending r (rw later at found) in
+          elim (cases_Bool (x.slot == r.slot)) [ inl own ↦ rw own refl | inr other ↦ rw other more ]
+    ]
+
+-- whether a reply grants the bus
+abbrev reply_grants : EventReply → Bool
+reply_grants (replies.Bus reply) = grants reply
+reply_grants (replies.Board reply) = false
+
+-- a request that is granted found the bus free
+ask_free_by : (bus : Arbitration) (slot level : ℕ) (holder : Option ℕ) → bus.holder ≡ holder
+    → grants (lawful_ask holder bus (bus_request level slot)).1 ≡ true → bus.holder ≡ None
+ask_free_by bus slot level None is granted = is
+ask_free_by bus slot level (Some h) is granted = absurd (false≢true granted)
+
+-- the same, whether the slot can request the bus or not
+ask_free : (bus : Arbitration) (slot level : ℕ) (can : Bool)
+    → grants (if can then lawful_ask bus.holder bus (bus_request level slot) else (bus, arb_replies.Denied)).1 ≡ true → bus.holder ≡ None
+ask_free bus slot level true granted = ask_free_by bus slot level bus.holder refl granted
+ask_free bus slot level false granted = absurd (false≢true granted)
+
+-- each call keeps the arbiter's state orderly
+call_orderly : (machine : Machine) (who : ℕ) (call : Call) → arbiter.IsOrderly machine.bus.object → arbiter.IsOrderly (machine_step machine who call).0.bus.object
+call_orderly machine who (OnBus cmd) is = orderly-step machine.bus.object cmd is
+call_orderly machine who (OnBoard x command) is =
+    subst (λ (bus : CountedState Arbitration). arbiter.IsOrderly bus.object) (sym (board_bus machine who x command (slice_get machine.boards x))) is
+
+module _ (config : Configuration) (lawful : IsLawful config) where
+  -- each event keeps the arbiter's state orderly
+  step_orderly : (before after : Machine) (o : Observation) → IsStepShown config before o after → arbiter.IsOrderly before.bus.object
+      → arbiter.IsOrderly after.bus.object
+  step_orderly before after o step is =
+      subst (λ (p : Machine × EventReply). arbiter.IsOrderly p.0.bus.object) (sym step.step) (call_orderly before o.board step.call is)
+
+  -- the board, the slot and the level of a grant
+  record IsPlaced (bus : Arbitration) (g : Grant) : Type 0 where
+    there : g.board < length config.boards
+    slot : g.slot ≡ slot_at config g.board
+    level : g.level ≡ level_at config g.board
+    holder : bus.holder ≡ Some g.slot
+
+  -- of a grant to a slot
+  slot_placed : (bus : Arbitration) (slot : ℕ) (place : Option ℕ) (g : Grant) → bus.holder ≡ Some slot → board_in_slot config slot ≡ place
+      → option_map (grant config bus slot) place ≡ Some g → IsPlaced bus g
+  slot_placed bus slot None g held at is = absurd (cc is)
+  slot_placed bus slot (Some board) g held at is =
+      subst (IsPlaced bus) (same_Some _ _ is) (record {
+        there = place_below config.boards slot board at;
+        slot = sym (named_slot config.boards slot board at);
+        level = refl;
+        holder = held;
+      })
+
+  -- of a grant to the holder
+  holder_placed : (bus : Arbitration) (holder : Option ℕ) (g : Grant) → bus.holder ≡ holder → option_and_then (grant_to config bus) holder ≡ Some g
+      → IsPlaced bus g
+  holder_placed bus None g held is = absurd (cc is)
+  holder_placed bus (Some slot) g held is = slot_placed bus slot (board_in_slot config slot) g held refl is
+
+  -- of a grant
+  granted_placed : (bus : Arbitration) (activity : Activity) (reply : EventReply) (g : Grant) → grant_of config activity reply bus ≡ Some g → IsPlaced bus g
+  granted_placed bus Requests (replies.Bus arb_replies.Granted) g is = holder_placed bus bus.holder g refl is
+  granted_placed bus Requests (replies.Bus arb_replies.Waiting) g is = absurd (cc is)
+  granted_placed bus Requests (replies.Bus arb_replies.Freed) g is = absurd (cc is)
+  granted_placed bus Requests (replies.Bus arb_replies.Denied) g is = absurd (cc is)
+  granted_placed bus Requests (replies.Board reply) g is = absurd (cc is)
+  granted_placed bus Polls reply g is = absurd (cc is)
+  granted_placed bus (Releases signals) reply g is = holder_placed bus bus.holder g refl is
+  granted_placed bus (Transfers datum) reply g is = absurd (cc is)
+  granted_placed bus (Local cmd) reply g is = absurd (cc is)
+  granted_placed bus Other reply g is = absurd (cc is)
+
+  -- a request with a grant was granted
+  request_grants : (reply : EventReply) (bus : Arbitration) (g : Grant) → grant_of config Requests reply bus ≡ Some g → reply_grants reply ≡ true
+  request_grants (replies.Bus arb_replies.Granted) bus g is = refl
+  request_grants (replies.Bus arb_replies.Waiting) bus g is = absurd (cc is)
+  request_grants (replies.Bus arb_replies.Freed) bus g is = absurd (cc is)
+  request_grants (replies.Bus arb_replies.Denied) bus g is = absurd (cc is)
+  request_grants (replies.Board reply) bus g is = absurd (cc is)
+
+  module _ (b : ℕ) (there : b < length config.boards) where
+    -- the bus request line of a slot after an event with this grant and request, by its value before it
+    abbrev shown : Option Grant → Bool → Value → Value
+    shown found asked v = if is_granted found b then High else (if asked then Low else v)
+
+    -- the line is low while the slot's request is pending
+    abbrev Waits : Arbitration → Value → Type 0
+    Waits bus v = pends bus (slot_at config b) ≡ true → v ≡ Low
+
+    -- an event that neither grants nor requests
+    quiet_waits : (own : Bool) (bus : Arbitration) (v : Value) → Waits bus v → Waits bus (shown None (own && false) v)
+    quiet_waits true bus v waits = waits
+    quiet_waits false bus v waits = waits
+
+    -- a request that is lawful
+    lawful_waits : (bus : Arbitration) (own level : ℕ) (holder : Option ℕ) (v : Value) → bus.holder ≡ holder → arbiter.IsOrderly bus
+        → own < length config.boards → Waits bus v
+        → (let made = lawful_ask holder bus (bus_request level (slot_at config own)) in
+        Waits made.0 (shown (grant_of config Requests (replies.Bus made.1) made.0) (own == b && true) v))
+    lawful_waits bus own level None v is orderly own_there waits pending =
+        absurd (false≢true (sym (ap (asks (slot_at config b)) (orderly.free is)) ∙ pending))
+    lawful_waits bus own level (Some h) v is orderly own_there waits pending =
+        elim (eqb_tells own b) [
+          | inl same ↦ rw same.0 refl
+          | inr other ↦
+              let apart : (slot_at config own == slot_at config b) ≡ false =
+              ne_eqb (slot_at config own) (slot_at config b) (λ same. other.1 (same_board config lawful own b own_there there same)) in
+              let was : pends bus (slot_at config b) ≡ true =
+              sym (asks_with (bus_request level (slot_at config own)) bus.pending (slot_at config b) apart) ∙ pending in
+              rw other.0 (waits was)
+        ]
+
+    -- a request that is denied
+    denied_waits : (bus : Arbitration) (own : Bool) (v : Value) → Waits bus v → Waits bus (shown None (own && true) v)
+    denied_waits bus true v waits pending = refl
+    denied_waits bus false v waits pending = waits pending
+
+    -- a request
+    ask_waits : (bus : Arbitration) (own level : ℕ) (v : Value) → arbiter.IsOrderly bus → own < length config.boards → Waits bus v
+        → (let made = ask_step bus (slot_at config own) level in
+        Waits made.0 (shown (grant_of config Requests (replies.Bus made.1) made.0) (own == b && true) v))
+    ask_waits bus own level v orderly own_there waits =
+        elim (cases_Bool (can_ask bus (slot_at config own) level)) [
+          | inl can ↦ rw can (lawful_waits bus own level bus.holder v refl orderly own_there waits)
+          | inr cannot ↦ rw cannot (denied_waits bus (own == b) v waits)
+        ]
+
+    -- without a grant to the slot or a request of it
+    other_waits : (bus : Arbitration) (found : Option Grant) (own : Bool) (v : Value) → is_granted found b ≡ false → v ≡ Low
+        → shown found (own && false) v ≡ Low
+    other_waits bus found true v none low = rw none low
+    other_waits bus found false v none low = rw none low
+
+    -- a release that frees the bus, or grants it to the next slot
+    release_waits : (bus : Arbitration) (own : Bool) (next : Option BusRequest) (v : Value) → next_of bus ≡ next → Waits bus v
+        → (let new = bus_after_release next bus in
+        Waits new (shown (option_and_then (grant_to config new) new.holder) (own && false) v))
+    release_waits bus own None v is waits = quiet_waits own (bus_after_release None bus) v waits
+    release_waits bus own (Some r) v is waits =
+        let new = bus_after_release (Some r) bus in
+        let granted : is_granted (option_and_then (grant_to config new) new.holder) b ≡ (r.slot == slot_at config b) =
+        holder_granted config lawful new new.holder b there refl in
+        λ pending. elim (eqb_tells r.slot (slot_at config b)) [
+          | inl same ↦
+              absurd (false≢true (sym (asks_none (slot_at config b) bus.pending)
+              ∙ (subst (λ (slot : ℕ). asks (slot_at config b) (without_slot slot bus.pending) ≡ true) same.1 pending)))
+          | inr other ↦
+              other_waits new (option_and_then (grant_to config new) new.holder) own v (granted ∙ other.0)
+              (waits (asks_before r.slot (slot_at config b) bus.pending pending))
+        ]
+
+    -- a release by the holder
+    done_waits : (bus : Arbitration) (own : ℕ) (mine : Bool) (v : Value) → holds bus (slot_at config own) ≡ true → Waits bus v
+        → (let new = (done_step bus (slot_at config own)).0 in
+        Waits new (shown (option_and_then (grant_to config new) new.holder) (mine && false) v))
+    done_waits bus own mine v held waits = rw held (release_waits bus mine (next_of bus) v refl waits)
+
+    -- a step and what it shows of the line
+    abbrev WaitsAfter : Bool → Activity → Value → Machine × EventReply → Type 0
+    WaitsAfter own activity v r =
+        Waits r.0.bus.object (shown (grant_of config activity r.1 r.0.bus.object) (own && requests activity) v)
+
+    -- an event that leaves the bus alone
+    kept_waits : (before after : Machine) (own : Bool) (v : Value) → after.bus ≡ before.bus → Waits before.bus.object v
+        → Waits after.bus.object (shown None (own && false) v)
+    kept_waits before after own v same waits =
+        subst (λ (bus : CountedState Arbitration). Waits bus.object (shown None (own && false) v)) (sym same) (quiet_waits own before.bus.object v waits)
+
+    -- a slot that holds the bus is the holder
+    holder_holds : (bus : Arbitration) (slot : ℕ) → bus.holder ≡ Some slot → holds bus slot ≡ true
+    holder_holds bus slot is = ap (λ (h : Option ℕ). option_map_or (λ one. one == slot) h false) is ∙ eq-eqb slot slot refl
+
+    -- the line after an event, by its call
+    call_waits : (before after : Machine) (own : ℕ) (activity : Activity) (reply : EventReply) (call : Call) (v : Value) → own < length config.boards
+        → arbiter.IsOrderly before.bus.object → (releases activity ≡ true → before.bus.object.holder ≡ Some (slot_at config own))
+        → IsShownAs own (slot_at config own) (level_at config own) activity call → (after, reply) ≡ machine_step before own call
+        → Waits before.bus.object v → WaitsAfter (own == b) activity v (after, reply)
+    call_waits before after own Requests reply call v own_there orderly release is step waits =
+        subst (WaitsAfter (own == b) Requests v) (sym (step ∙ ap (machine_step before own) is))
+        (ask_waits before.bus.object own (level_at config own) v orderly own_there waits)
+    call_waits before after own Polls reply call v own_there orderly release is step waits =
+        subst (WaitsAfter (own == b) Polls v) (sym (step ∙ ap (machine_step before own) is)) (quiet_waits (own == b) before.bus.object v waits)
+    call_waits before after own (Releases signals) reply call v own_there orderly release is step waits =
+        subst (WaitsAfter (own == b) (Releases signals) v) (sym (step ∙ ap (machine_step before own) is))
+        (done_waits before.bus.object own (own == b) v (holder_holds before.bus.object (slot_at config own) (release refl)) waits)
+    call_waits before after own (Transfers datum) reply call v own_there orderly release is step waits =
+        let next = machine_step before own (OnBoard datum.board is.0) in
+        subst (WaitsAfter (own == b) (Transfers datum) v) (sym (step ∙ ap (machine_step before own) is.1))
+        (kept_waits before next.0 (own == b) v (board_bus before own datum.board is.0 (slice_get before.boards datum.board)) waits)
+    call_waits before after own (Local cmd) reply call v own_there orderly release is step waits =
+        let next = machine_step before own (OnBoard own (command_given cmd)) in
+        subst (WaitsAfter (own == b) (Local cmd) v) (sym (step ∙ ap (machine_step before own) is))
+        (kept_waits before next.0 (own == b) v (board_bus before own own (command_given cmd) (slice_get before.boards own)) waits)
+    call_waits before after own Other reply call v own_there orderly release is step waits = absurd is
+
+    -- the line after an event
+    event_waits : (before after : Machine) (n : ℕ) (o : Observation) (v : Value) → IsStepShown config before o after → arbiter.IsOrderly before.bus.object
+        → (releases o.activity ≡ true → before.bus.object.holder ≡ Some (slot_at config o.board)) → Waits before.bus.object v
+        → Waits after.bus.object (after_event (request_line b) (length config.boards) n o v)
+    event_waits before after n o v step orderly release waits =
+        let over : nat_le (grant_edge o.activity + 2) 19 ≡ true = request_within o.activity in
+        let value : after_event (request_line b) (length config.boards) n o v ≡ shown o.grant (o.board == b && requests o.activity) v =
+        request_at (length config.boards) n o b there 19 v
+        ∙ pulse_late Low High v (o.board == b && requests o.activity) (is_granted o.grant b) 0 (grant_edge o.activity + 2) 19 refl over in
+        let by_call : WaitsAfter (o.board == b) o.activity v (after, o.reply) =
+        call_waits before after o.board o.activity o.reply step.call v step.there orderly release step.shown step.step waits in
+        subst (Waits after.bus.object) (sym value)
+        (subst (λ (g : Option Grant). Waits after.bus.object (shown g (o.board == b && requests o.activity) v)) (sym step.grant) by_call)
+      where
+        request_within : (activity : Activity) → nat_le (grant_edge activity + 2) 19 ≡ true
+        request_within Requests = refl
+        request_within Polls = refl
+        request_within (Releases None) = refl
+        request_within (Releases (Some signals)) = refl
+        request_within (Transfers datum) = refl
+        request_within (Local cmd) = refl
+        request_within Other = refl
+
+    -- an event of a run: the machine before it and after it, and the line before it
+    record IsHere (n : ℕ) (start : Machine) (events : List Observation) (o : Observation) (v : Value) : Type 0 where
+      here : Machine
+      next : Machine
+      run : IsRunShown config start events here
+      step : IsStepShown config here o next
+      release : releases o.activity ≡ true → here.bus.object.holder ≡ Some (slot_at config o.board)
+      waits : Waits here.bus.object (after_events (request_line b) (length config.boards) n events v)
+
+    -- each event of a run has one
+    is_here : (n : ℕ) (start : Machine) (events later : List Observation) (o : Observation) (v : Value) (going : Option ℕ)
+        → IsOrderly config start going (events ++ o ∷ later) → arbiter.IsOrderly start.bus.object → Waits start.bus.object v → IsHere n start events o v
+    is_here n start [] later o v going run orderly waits = record {
+      here = start;
+      next = run.0;
+      run = refl;
+      step = run.1;
+      release = run.2.release;
+      waits = waits;
+    }
+    is_here n start (e ∷ events) later o v going run orderly waits =
+        let rest = is_here (n + 1) run.0 events later o (after_event (request_line b) (length config.boards) (n + 1) e v) (open_after going e) run.3
+        (step_orderly start run.0 e run.1 orderly) (event_waits start run.0 (n + 1) e v run.1 orderly run.2.release waits) in record {
+          here = rest.here;
+          next = rest.next;
+          run = (run.0, run.1, rest.run);
+          step = rest.step;
+          release = rest.release;
+          waits = rest.waits;
+        }
+
+    -- each event of a run of turns has one
+    turns_here : (slots : List ℕ) (events later : List Observation) (o : Observation) → observations config slots ≡ events ++ o ∷ later
+        → IsHere 0 (initial_state config).machine events o High
+    turns_here slots events later o whole =
+        is_here 0 (initial_state config).machine events later o High None
+        (subst (IsOrderly config (initial_state config).machine None) whole (run_orderly config lawful slots)) (orderly-opening config.arbiter)
+        (λ pending. absurd (false≢true pending))
+
+  -- after a release the bus is granted to a slot whose request was pending
+  released_to : (bus : Arbitration) (next : Option BusRequest) (slot : ℕ) → next_of bus ≡ next → (bus_after_release next bus).holder ≡ Some slot
+      → pends bus slot ≡ true
+  released_to bus None slot is held = absurd (cc held)
+  released_to bus (Some r) slot is held =
+      subst (λ (s : ℕ). asks s bus.pending ≡ true) (same_Some r.slot slot held) (asks_found _ bus.pending r is)
+
+  -- a release by the holder grants the bus to a slot whose request was pending
+  done_to : (bus : Arbitration) (own slot : ℕ) → holds bus own ≡ true → (done_step bus own).0.holder ≡ Some slot → pends bus slot ≡ true
+  done_to bus own slot held is = released_to bus (next_of bus) slot refl (rw held at is)
+
+  -- a grant is to the slot that requests the bus in the event, or to one whose request was pending
+  asked_or_waits : (before after : Machine) (own : ℕ) (activity : Activity) (reply : EventReply) (call : Call) (g : Grant) → own < length config.boards
+      → (releases activity ≡ true → before.bus.object.holder ≡ Some (slot_at config own))
+      → IsShownAs own (slot_at config own) (level_at config own) activity call → (after, reply) ≡ machine_step before own call
+      → grant_of config activity reply after.bus.object ≡ Some g
+      → ((own == g.board && requests activity) ≡ true) ⊎ (pends before.bus.object (slot_at config g.board) ≡ true)
+  asked_or_waits before after own Requests reply call g own_there release is step granted =
+      let bus = before.bus.object in
+      let slot = slot_at config own in
+      let level = level_at config own in
+      let made : (after, reply) ≡ machine_step before own (OnBus (commands.Ask slot level)) = step ∙ ap (machine_step before own) is in
+      let reply_is : reply ≡ replies.Bus (ask_step bus slot level).1 = ap (λ (p : Machine × EventReply). p.1) made in
+      let bus_is : after.bus.object ≡ (ask_step bus slot level).0 = ap (λ (p : Machine × EventReply). p.0.bus.object) made in
+      let grants_it : grants (ask_step bus slot level).1 ≡ true
+      = sym (ap reply_grants reply_is) ∙ request_grants reply after.bus.object g granted in
+      let place = granted_placed after.bus.object Requests reply g granted in
+      let held : after.bus.object.holder ≡ Some slot
+      = ap (λ (b : Arbitration). b.holder) bus_is ∙ ask_grants bus slot level grants_it in
+      let same : own ≡ g.board = same_board config lawful own g.board own_there place.there (same_Some slot g.slot (sym held ∙ place.holder) ∙ place.slot) in
+      inl (rw (eq-eqb own g.board same) refl)
+  asked_or_waits before after own (Releases signals) reply call g own_there release is step granted =
+      let bus = before.bus.object in
+      let slot = slot_at config own in
+      let made : (after, reply) ≡ machine_step before own (OnBus (commands.Done slot)) = step ∙ ap (machine_step before own) is in
+      let bus_is : after.bus.object ≡ (done_step bus slot).0 = ap (λ (p : Machine × EventReply). p.0.bus.object) made in
+      let place = granted_placed after.bus.object (Releases signals) reply g granted in
+      let held : (done_step bus slot).0.holder ≡ Some (slot_at config g.board)
+      = sym (ap (λ (b : Arbitration). b.holder) bus_is) ∙ place.holder ∙ ap Some place.slot in
+      let holds_it : holds bus slot ≡ true
+      = ap (λ (h : Option ℕ). option_map_or (λ one. one == slot) h false) (release refl) ∙ eq-eqb slot slot refl in
+      inr (done_to bus slot (slot_at config g.board) holds_it held)
+  asked_or_waits before after own Polls reply call g own_there release is step granted = absurd (cc granted)
+  asked_or_waits before after own (Transfers datum) reply call g own_there release is step granted = absurd (cc granted)
+  asked_or_waits before after own (Local cmd) reply call g own_there release is step granted = absurd (cc granted)
+  asked_or_waits before after own Other reply call g own_there release is step granted = absurd is
+
+  -- a grant is with a release, or on a free bus
+  released_or_free : (before after : Machine) (own : ℕ) (activity : Activity) (reply : EventReply) (call : Call) (g : Grant)
+      → IsShownAs own (slot_at config own) (level_at config own) activity call → (after, reply) ≡ machine_step before own call
+      → grant_of config activity reply after.bus.object ≡ Some g
+      → (releases activity ≡ true) ⊎ ((releases activity ≡ false) × (before.bus.object.holder ≡ None))
+  released_or_free before after own Requests reply call g is step granted =
+      let bus = before.bus.object in
+      let slot = slot_at config own in
+      let level = level_at config own in
+      let made : (after, reply) ≡ machine_step before own (OnBus (commands.Ask slot level)) = step ∙ ap (machine_step before own) is in
+      let reply_is : reply ≡ replies.Bus (ask_step bus slot level).1 = ap (λ (p : Machine × EventReply). p.1) made in
+      let grants_it : grants (ask_step bus slot level).1 ≡ true
+      = sym (ap reply_grants reply_is) ∙ request_grants reply after.bus.object g granted in
+      inr (refl, ask_free bus slot level (can_ask bus slot level) grants_it)
+  released_or_free before after own (Releases signals) reply call g is step granted = inl refl
+  released_or_free before after own Polls reply call g is step granted = absurd (cc granted)
+  released_or_free before after own (Transfers datum) reply call g is step granted = absurd (cc granted)
+  released_or_free before after own (Local cmd) reply call g is step granted = absurd (cc granted)
+  released_or_free before after own Other reply call g is step granted = absurd is
+
+  -- a value that a variable has taken
+  taken : (first v : Value) (own late : Bool) → own ≡ true → late ≡ true → (if own && late then first else v) ≡ first
+  taken first v own late is past = rw (is, past) refl
+
+  module _ (slots : List ℕ) (events later : List Observation) (o : Observation) (g : Grant) (whole : observations config slots ≡ events ++ o ∷ later)
+      (is : o.grant ≡ Some g) where
+    -- the event, and the machine before it and after it
+    abbrev Parts : Type 0
+    Parts = (here : Machine) × (next : Machine) × IsRunShown config (initial_state config).machine events here × IsStepShown config here o next
+
+    parts : Parts
+    parts =
+        split_run config lawful (initial_state config).machine events later o (state_after config slots).machine
+        (subst (λ (all : List Observation). IsRunShown config (initial_state config).machine all (state_after config slots).machine) whole
+        (run_shown config slots))
+
+    -- the board of the grant
+    placed : (g.board < length config.boards) × (g.slot ≡ slot_at config g.board) × (g.level ≡ level_at config g.board)
+    placed =
+        let place = granted_placed parts.1.bus.object o.activity o.reply g (sym parts.3.grant ∙ is) in (place.there, place.slot, place.level)
+
+    -- the slot and the level of the grant are those of a board
+    pub slot_granted : (g.board < length config.boards) × (g.slot ≡ slot_at config g.board) × (g.level ≡ level_at config g.board) × (g.level ≤ 3)
+    slot_granted = (placed.0, placed.1, placed.2, subst (λ (level : ℕ). level ≤ 3) (sym placed.2) (level_below config lawful g.board))
+
+    -- the slot requests the bus when the grant begins
+    pub request_granted : value_in_run (request_line g.board) (length config.boards) events o High (grant_edge o.activity) ≡ Low
+    request_granted =
+        let at = turns_here g.board placed.0 slots events later o whole in
+        let v : Value = value_after_run (request_line g.board) (length config.boards) events High in
+        request_at (length config.boards) (length events + 1) o g.board placed.0 (grant_edge o.activity) v
+        ∙ pulse_early Low High v (o.board == g.board && requests o.activity) (is_granted o.grant g.board) 0 (grant_edge o.activity + 2) (grant_edge o.activity)
+        (lt-leb (grant_edge o.activity + 2) (grant_edge o.activity) (omega arith))
+        ∙ elim (asked_or_waits at.here at.next o.board o.activity o.reply at.step.call g at.step.there at.release at.step.shown at.step.step
+        (sym at.step.grant ∙ is)) [
+          | inl asked ↦ taken Low v (o.board == g.board && requests o.activity) (nat_le 0 (grant_edge o.activity)) asked (le-leb 0 (grant_edge o.activity) (omega arith))
+          | inr waits ↦ either (o.board == g.board && requests o.activity) (nat_le 0 (grant_edge o.activity)) v (at.waits waits)
+        ]
+      where
+        either : (own late : Bool) (v : Value) → v ≡ Low → (if own && late then Low else v) ≡ Low
+        either own late v low =
+            elim (cases_Bool (own && late)) [ inl now ↦ rw now refl | inr not_now ↦ rw not_now low ]
+
+    -- BBSY* is high when the grant begins
+    pub busy_granted : value_in_run bus_busy_line (length config.boards) events o High (grant_edge o.activity) ≡ High
+    busy_granted =
+        let v : Value = value_after_run bus_busy_line (length config.boards) events High in
+        let before : v ≡ level_of (is_none parts.0.bus.object.holder)
+        = run_bus_busy config lawful (initial_state config).machine events parts.0 0 parts.2 (opening_seated config lawful) in
+        bus_busy_at (length config.boards) (length events + 1) o (has_levels config lawful parts.0 parts.1 o parts.3) (grant_edge o.activity) v
+        ∙ pulse_early High Low v (releases o.activity) (is_some o.grant) (release_edge o.activity) (grant_edge o.activity + 1) (grant_edge o.activity)
+        (lt-leb (grant_edge o.activity + 1) (grant_edge o.activity) (omega arith))
+        ∙ elim (released_or_free parts.0 parts.1 o.board o.activity o.reply parts.3.call g parts.3.shown parts.3.step (sym parts.3.grant ∙ is)) [
+          | inl released ↦ taken High v (releases o.activity) (nat_le (release_edge o.activity) (grant_edge o.activity)) released
+              (le-leb (release_edge o.activity) (grant_edge o.activity) (omega arith))
+          | inr free ↦ rw free.0 (before ∙ ap (λ (h : Option ℕ). level_of (is_none h)) free.1)
+        ]
