@@ -19,6 +19,7 @@ pub mod Moves
 pub mod Tenures
 pub mod Goes
 pub mod Walks
+pub mod Currents
 pub mod Orders
 pub mod AddressStrobes
 pub mod RunStrobes

@@ -1,5 +1,5 @@
 -- The command of a datum, as the event of its transfer shows it.
-use Rattle.std.specs.Prelude.{ℕ, ◌≡◌, ◌+◌, ◌*◌, ◌<◌, ◌==◌, Some}
+use Rattle.std.specs.Prelude.{ℕ, ◌≡◌, ◌+◌, ◌*◌, ◌<◌, ◌==◌, Bool, if◌then◌else◌, Option, Some, None}
 use Rattle.vme_cycle.specs.Requests.{addr_of, count_of, datum_len, function_of}
 use Rattle.vme_cycle.specs.Lawful.{Transfer, IsLawfulTransfer}
 use Rattle.vme_cycle.specs.Plans.{signals_of}
@@ -13,6 +13,7 @@ use Rattle.vme_script.specs.Lawful.{IsLawful}
 use Rattle.vme_trace.specs.declared.observation.activity.TransferredDatum.{TransferredDatum}
 use Rattle.vme_trace.specs.declared.observation.activity.Activity.{Activity}
 use Rattle.vme_trace.specs.declared.observation.activity.Activity.TheVariants.{Transfers}
+use Rattle.vme_trace_laws.specs.Transfers.{OpenTransfer, open_at}
 
 -- an event shows the datum with a number of a lawful transfer, on the board that responds to its first byte: the datum's
 -- signals and function, and whether it is the first or the last. The call is the datum's command, at the offset of that byte and
@@ -38,3 +39,14 @@ pub record IsDatumShown (config : Configuration) (datum : TransferredDatum) (cal
 abbrev pub IsTransferShown : Configuration → Activity → Call → Type 0
 IsTransferShown config (Transfers datum) call = IsDatumShown config datum call
 IsTransferShown config activity call = Unit {0}
+
+-- the event of a transfer shows the first datum of one, if none is open, or else the next datum of the open transfer, which is
+-- then open with one datum more, or has ended with the event; any other event leaves the open transfer
+abbrev pub GoesOn : (config : Configuration) → Option OpenTransfer → ℕ → Bool → (activity : Activity) → (call : Call)
+    → IsTransferShown config activity call
+    → Option OpenTransfer
+    → Type 0
+GoesOn config going board ended (Transfers datum) call shown next =
+    (going ≡ (if datum.first then None else Some (open_at board shown.transfer shown.number)))
+    × (next ≡ (if ended then None else Some (open_at board shown.transfer (shown.number + 1))))
+GoesOn config going board ended activity call shown next = next ≡ going

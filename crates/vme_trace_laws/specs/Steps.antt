@@ -12,7 +12,9 @@ use Rattle.vme_trace.specs.declared.observation.activity.Activity.{Activity}
 use Rattle.vme_trace.specs.declared.observation.activity.Activity.TheVariants.{Requests, Polls, Releases, Transfers, Local, Other}
 use Rattle.vme_trace.specs.declared.observation.Observation.{Observation}
 use Rattle.vme_trace.specs.Grants.{grant_of}
-use Rattle.vme_trace_laws.specs.Commands.{IsTransferShown}
+use Rattle.vme_trace.specs.Slots.{has_ended}
+use Rattle.vme_trace_laws.specs.Transfers.{OpenTransfer}
+use Rattle.vme_trace_laws.specs.Commands.{IsTransferShown, GoesOn}
 
 -- what the processor of a board with this index, slot and level is shown to do is its call: a command of its slot to the
 -- arbiter, a command to the selected board, or its command to its own local port
@@ -42,3 +44,10 @@ abbrev pub IsRunShown : Configuration → Machine → List Observation → Machi
 IsRunShown config before [] after = after ≡ before
 IsRunShown config before (o ∷ events) after =
     (next : Machine) × IsStepShown config before o next × IsRunShown config next events after
+
+-- events are steps of a run of the machine, and those of each transfer show its data, each once and in order
+abbrev pub AreDataInOrder : Configuration → Machine → Option OpenTransfer → List Observation → Type 0
+AreDataInOrder config before going [] = Unit {0}
+AreDataInOrder config before going (o ∷ events) =
+    (after : Machine) × (step : IsStepShown config before o after) × (next : Option OpenTransfer)
+    × GoesOn config going o.board (has_ended o) o.activity step.call step.datum next × AreDataInOrder config after next events

@@ -1,5 +1,6 @@
 -- The transfer that is open after some events: it has begun, and has not ended.
 use Rattle.std.specs.Prelude.{ℕ, Bool, if◌then◌else◌, List, [], ◌∷◌, Option, Some, None, is_some}
+use Rattle.vme_cycle.specs.Lawful.{Transfer}
 use Rattle.vme_trace.specs.declared.observation.Observation.{Observation}
 use Rattle.vme_trace.specs.Handshakes.{first_handshake}
 use Rattle.vme_trace.specs.Slots.{has_ended}
@@ -25,3 +26,13 @@ open_transfer events = open_after_all None events
 -- that of the open transfer, if there is one
 abbrev pub transfer_board : List Observation → Observation → Option ℕ
 transfer_board events o = if has_handshake o then Some o.board else open_transfer events
+
+-- a transfer that has begun and has not ended: the board of its processor, the transfer, and the number of data that it has moved
+pub record OpenTransfer : Type 0 where
+  pub board : ℕ
+  pub transfer : Transfer
+  pub moved : ℕ
+
+-- the same from its parts
+abbrev pub open_at : ℕ → Transfer → ℕ → OpenTransfer
+open_at board transfer moved = record { board = board; transfer = transfer; moved = moved }

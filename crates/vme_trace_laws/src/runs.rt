@@ -1,5 +1,5 @@
 //! Laws of runs. Each function's contract is a law; its body is empty.
-ghost use Rattle.std.specs.Prelude.{◌≡◌, ◌<◌, ◌∷◌, ◌++◌, ℕ, List, Some, length, filter, not, is_none};
+ghost use Rattle.std.specs.Prelude.{◌≡◌, ◌<◌, ◌∷◌, ◌++◌, ℕ, List, Some, None, length, filter, not, is_none};
 ghost use Rattle.vme_arbiter.specs.Arbitration.{holds};
 ghost use Rattle.vme_core.specs.declared.event.Target.{Target};
 ghost use Rattle.vme_core.specs.Machines.{IsThere, steps_of};
@@ -17,7 +17,7 @@ ghost use Rattle.vme_trace.specs.declared.dump.variable.Variable.{Variable};
 ghost use Rattle.vme_trace.specs.Variables.{code_of};
 ghost use Rattle.vme_trace_laws.specs.Shown.{data_lines, upper_data_lines, IsStrobe, IsAnswer};
 ghost use Rattle.vme_trace_laws.specs.Events.{grant_lines_in, IsPortLine};
-ghost use Rattle.vme_trace_laws.specs.Steps.{IsRunShown};
+ghost use Rattle.vme_trace_laws.specs.Steps.{IsRunShown, AreDataInOrder};
 ghost use Rattle.vme_trace_laws.specs.Counts.{is_shown_on, all_steps};
 ghost use Rattle.vme_trace_laws.specs.Values.{event_number, holder_shown, holder_line, bus_busy_line, busy_line};
 ghost use Rattle.vme_trace.specs.Shown.{value_after_run, value_in_run};
@@ -25,12 +25,15 @@ ghost use Rattle.vme_trace.specs.Shown.{value_after_run, value_in_run};
 use crate::events::events_end_at_rest;
 
 /// States that each event is shown once. The events of turns of any slots are the steps of a run of
-/// the machine, in order; one of a transfer shows the datum whose command the step is. Each board's
-/// memory has made as many steps, which the report prints, as events are shown on the board, and the
-/// arbiter as many as events are shown on it.
+/// the machine, in order; one of a transfer shows the datum whose command the step is. The data of each
+/// transfer are shown one after another, from the first on. Each board's memory has made as many steps,
+/// which the report prints, as events are shown on the board, and the arbiter as many as events are shown
+/// on it.
 pub fn each_event_is_shown_once()
     ensures run { (config : Configuration) (slots : List ℕ) → IsRunShown config
         (initial_state config).machine (observations config slots) (state_after config slots).machine }
+    ensures data { (config : Configuration) (slots : List ℕ) → IsLawful config →
+        AreDataInOrder config (initial_state config).machine None (observations config slots) }
     ensures steps { (config : Configuration) (slots : List ℕ) (target : Target) →
         IsThere (state_after config slots).machine target →
         steps_of (state_after config slots).machine target

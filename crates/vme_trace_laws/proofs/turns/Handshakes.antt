@@ -14,10 +14,16 @@ use Rattle.vme_master.specs.declared.job.BusJob.{BusJob}
 use Rattle.vme_master.specs.declared.job.Job.TheVariants.{Bus}
 use Rattle.vme_master.specs.declared.phase.Phase.TheVariants.{Transferring, Releasing}
 use Rattle.vme_master.specs.Machine.{datum_phase, phase_replied}
+use Rattle.vme_core.specs.declared.event.EventReply.{EventReply}
 use Rattle.vme_trace.specs.declared.observation.activity.TransferredDatum.{TransferredDatum}
-use Rattle.vme_trace.specs.Handshakes.{half_by, half_of, half_handshake, is_berr, has_address_phase, first_of_datum, second_of_datum}
+use Rattle.vme_trace.specs.declared.observation.activity.Activity.{Activity}
+use Rattle.vme_trace.specs.Handshakes.{first_handshake, second_handshake, half_by, half_of, half_handshake, is_berr, has_address_phase, first_of_datum, second_of_datum}
 use Rattle.vme_trace.specs.Slots.{ends_with}
 use Rattle.vme_trace_laws.proofs.turns.Views.{is_amid}
+
+-- whether a transfer ends with what a processor is shown to do
+abbrev pub ended_by : Activity → EventReply → Bool
+ended_by activity reply = ends_with (first_handshake activity reply) || ends_with (second_handshake activity reply)
 
 -- twice not
 pub not_not : (b : Bool) → not (not b) ≡ b

@@ -1,5 +1,5 @@
 -- A call of a processor, by what it is shown to do: who holds the bus after it, and whether its transfer goes on.
-use Rattle.std.proofs.Common.{◌≡◌, ◌⊎◌, ℕ, ◌+◌, ◌*◌, ◌==◌, ◌||◌, Bool, true, false, not, if◌then◌else◌, List, Option, Some, None, is_some, refl, ap, sym, subst, ◌∙◌, inl, inr}
+use Rattle.std.proofs.Common.{◌≡◌, ◌⊎◌, ℕ, ◌+◌, ◌*◌, ◌==◌, Bool, true, false, not, if◌then◌else◌, List, Option, Some, None, is_some, refl, ap, sym, subst, ◌∙◌, inl, inr}
 use Rattle.std.specs.Prelude.{nat_lt, slice_get}
 use Rattle.std.specs.Option.{option_and_then}
 use Rattle.std.proofs.lemmas.Bool.{false≢true}
@@ -39,21 +39,17 @@ use Rattle.vme_trace.specs.declared.observation.activity.Activity.{Activity}
 use Rattle.vme_trace.specs.declared.observation.activity.Activity.TheVariants.{Releases, Transfers}
 use Rattle.vme_trace.specs.Activities.{transferred, board_activity, activity_of}
 use Rattle.vme_trace.specs.declared.dump.handshake.Handshake.{Handshake}
-use Rattle.vme_trace.specs.Handshakes.{first_handshake, second_handshake}
-use Rattle.vme_trace.specs.Slots.{releases, ends_with}
+use Rattle.vme_trace.specs.Handshakes.{first_handshake}
+use Rattle.vme_trace.specs.Slots.{releases}
 use Rattle.vme_trace_laws.proofs.turns.Busy.{board_bus}
-use Rattle.vme_trace_laws.proofs.turns.Turns.{own_call}
+use Rattle.vme_trace_laws.proofs.turns.Requested.{own_call}
 use Rattle.vme_trace_laws.proofs.turns.Jobs.{IsOwnJob, IsOwnTask, IsOwnView, own_view}
 use Rattle.vme_trace_laws.proofs.turns.Views.{holding, amid, line_view, view_after, IsLike}
 use Rattle.vme_trace_laws.proofs.turns.LineViews.{line_makes, line_datum_of}
 use Rattle.vme_trace_laws.proofs.turns.Data.{IsDue}
 use Rattle.vme_trace_laws.proofs.turns.Arbiter.{ask_keeps, ask_grants, look_grants}
 use Rattle.vme_trace_laws.proofs.turns.Phases.{task_of, answered_grants, answered_amid, released_holds, released_amid, local_holds, local_amid}
-use Rattle.vme_trace_laws.proofs.turns.Handshakes.{not_not, first_opens, datum_ends, modify_last, replied_amid}
-
--- whether a transfer ends with what a processor is shown to do
-abbrev pub ended_by : Activity → EventReply → Bool
-ended_by activity reply = ends_with (first_handshake activity reply) || ends_with (second_handshake activity reply)
+use Rattle.vme_trace_laws.proofs.turns.Handshakes.{ended_by, not_not, first_opens, datum_ends, modify_last, replied_amid}
 
 -- an event without a handshake leaves its processor's transfer; one with a handshake is by the holder of the bus, begins a
 -- transfer unless the processor is amid one, and leaves it amid the transfer unless that ends

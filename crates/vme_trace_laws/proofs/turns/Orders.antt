@@ -16,13 +16,15 @@ use Rattle.vme_trace.specs.declared.observation.Observation.{Observation}
 use Rattle.vme_trace.specs.Observations.{observed, observed_at, observed_from, observations}
 use Rattle.vme_trace.specs.declared.dump.handshake.Handshake.{Handshake}
 use Rattle.vme_trace.specs.Handshakes.{first_handshake}
-use Rattle.vme_trace_laws.specs.Transfers.{open_after}
-use Rattle.vme_trace.specs.Slots.{releases}
-use Rattle.vme_trace_laws.specs.Steps.{IsStepShown}
+use Rattle.vme_trace_laws.specs.Transfers.{OpenTransfer, open_after}
+use Rattle.vme_trace.specs.Slots.{releases, has_ended}
+use Rattle.vme_trace_laws.specs.Steps.{IsStepShown, AreDataInOrder}
 use Rattle.vme_trace_laws.proofs.turns.Elements.{get_map}
-use Rattle.vme_trace_laws.proofs.turns.Turns.{processors_get, IsTurnShown, turn_shown}
+use Rattle.vme_trace_laws.proofs.turns.Turns.{processors_get}
 use Rattle.vme_trace_laws.proofs.turns.Runs.{place_below}
-use Rattle.vme_trace_laws.proofs.turns.Views.{holding, amid, IsLike, like_same}
+use Rattle.vme_trace_laws.proofs.turns.Views.{holding, amid, current, IsLike, like_same}
+use Rattle.vme_trace_laws.proofs.turns.Requested.{IsAtDatum}
+use Rattle.vme_trace_laws.proofs.turns.Currents.{current_in, open_next, goes_on, own_placed, other_placed}
 use Rattle.vme_trace_laws.proofs.turns.Moves.{IsMove}
 use Rattle.vme_trace_laws.proofs.turns.Tenures.{IsTenure, IsOpening, going_holds, going_apart, own_holds, opening_of, tenure_next, tenure_same}
 use Rattle.vme_trace_laws.proofs.turns.Goes.{view_in}
@@ -46,17 +48,26 @@ module _ (config : Configuration) where
       (next : Machine) × IsStepShown config machine o next × IsInOrder machine going o × IsOrderly next (open_after going o) events
 
 module _ (config : Configuration) (lawful : IsLawful config) where
-  -- the invariant of a stepper
-  abbrev IsSound : StepperView → Option ℕ → Type 0
-  IsSound stepper going = IsTenure config lawful stepper.machine.bus.object (view_at stepper) going
+  -- the invariant of a stepper: of the processors' tenures, and of the place of each in the open transfer
+  record IsSound (stepper : StepperView) (going : Option ℕ) (open_one : Option OpenTransfer) : Type 0 where
+    tenure : IsTenure config lawful stepper.machine.bus.object (view_at stepper) going
+    placed : (j : ℕ) → current (view_at stepper j) ≡ current_in open_one j
 
-  -- what follows a turn is orderly
-  turned : (board : ℕ) (found : Option Observation) (before after : StepperView) (going : Option ℕ) (later : List Observation)
-      → board < length config.boards → IsTurnShown config before.machine found after.machine → IsTurn config board found before after → IsSound before going
-      → ((next : Option ℕ) → IsSound after next → IsOrderly config after.machine next later) → IsOrderly config before.machine going (option_to_list found ++ later)
-  turned board None before after going later there shown turn sound rest =
-      subst (λ (m : Machine). IsOrderly config m going later) shown (rest going (tenure_same config lawful before.machine.bus.object after.machine.bus.object (view_at before) (view_at after) going sound
-      (ap (λ (m : Machine). m.bus.object.holder) turn.step.0) (λ j. like j)))
+  -- events are in order, and so are the data that they show
+  abbrev Follows : Machine → Option ℕ → Option OpenTransfer → List Observation → Type 0
+  Follows machine going open_one events = IsOrderly config machine going events × AreDataInOrder config machine open_one events
+
+  -- what follows a turn
+  turned : (board : ℕ) (found : Option Observation) (before after : StepperView) (going : Option ℕ) (open_one : Option OpenTransfer)
+      → (later : List Observation) → board < length config.boards → IsTurn config board found before after → IsSound before going open_one
+      → ((next : Option ℕ) (more : Option OpenTransfer) → IsSound after next more → Follows after.machine next more later)
+      → Follows before.machine going open_one (option_to_list found ++ later)
+  turned board None before after going open_one later there turn sound rest =
+      subst (λ (m : Machine). Follows m going open_one later) turn.step.0 (rest going open_one (record {
+        tenure = tenure_same config lawful before.machine.bus.object after.machine.bus.object (view_at before) (view_at after) going sound.tenure
+            (ap (λ (m : Machine). m.bus.object.holder) turn.step.0) (λ j. like j);
+        placed = λ j. (like j).datum ∙ sound.placed j;
+      }))
     where
       like : (j : ℕ) → IsLike (view_at after j) (view_at before j)
       like j =
@@ -64,55 +75,86 @@ module _ (config : Configuration) (lawful : IsLawful config) where
             | inl same ↦ subst (λ k. IsLike (view_at after k) (view_at before k)) same.1 turn.step.1
             | inr other ↦ subst (λ v. IsLike v (view_at before j)) (sym (turn.others j other.1)) (like_same (view_at before j))
           ]
-  turned board (Some o) before after going later there shown turn sound rest =
+  turned board (Some o) before after going open_one later there turn sound rest =
       let own : o.board ≡ board = turn.step.0 in
+      let tenure = sound.tenure in
+      let step : IsStepShown config before.machine o after.machine = turn.step.2 in
       let there' : o.board < length config.boards = subst (λ (b : ℕ). b < length config.boards) (sym own) there in
       let move : IsMove (slot_at config o.board) (view_at before o.board) (view_at after o.board) before.machine.bus.object after.machine.bus.object
       o.activity o.reply
       = subst (λ (b : ℕ). IsMove (slot_at config b) (view_at before b) (view_at after b) before.machine.bus.object after.machine.bus.object
-      o.activity o.reply) (sym own) turn.step.1 in (
-        after.machine,
-        shown,
-        record {
-          opening = λ t first. opening_of config lawful before.machine.bus.object (view_at before) going sound o (view_at after o.board) t
-              (first_handshake o.activity o.reply) first move.shown;
-          own = λ t first. own_holds config lawful before.machine.bus.object (view_at before) going sound o (view_at after o.board) t
-              (first_handshake o.activity o.reply) first move.shown;
-          open_holds = λ b is. going_holds config lawful before.machine.bus.object (view_at before) going sound b is;
-          release = λ is. (sound.held o.board (move.releasing is)).1;
-          apart = λ b is none same. going_apart config lawful before.machine.bus.object (view_at before) going sound o (view_at after o.board) b
-              (first_handshake o.activity o.reply) is none move.shown same;
-        },
-        rest (open_after going o) (tenure_next config lawful before.machine.bus.object after.machine.bus.object (view_at before) (view_at after) going o sound
-            there' (λ j apart. turn.others j (λ same. apart (own ∙ same))) move),
+      o.activity o.reply) (sym own) turn.step.1 in
+      let at : IsAtDatum config o.activity step.call step.datum (has_ended o) (view_at before o.board) (view_at after o.board)
+      = subst (λ (b : ℕ). IsAtDatum config o.activity step.call step.datum (has_ended o) (view_at before b) (view_at after b)) (sym own) turn.step.3 in
+      let bus = before.machine.bus.object in
+      let more = open_next config open_one o.board (has_ended o) o.activity step.call step.datum in
+      let next : IsSound after (open_after going o) more = record {
+        tenure = tenure_next config lawful bus after.machine.bus.object (view_at before) (view_at after) going o tenure there'
+            (λ j apart. turn.others j (λ same. apart (own ∙ same))) move;
+        placed = λ j. elim (eqb_tells o.board j) [
+          | inl same ↦
+              subst (λ (k : ℕ). current (view_at after k) ≡ current_in more k) same.1
+              (own_placed config lawful bus (view_at before) going tenure open_one sound.placed o.board (has_ended o) o.activity step.call step.datum
+              (view_at after o.board) at)
+          | inr other ↦
+              ap current (turn.others j (λ same. other.1 (own ∙ same)))
+              ∙ other_placed config lawful bus (view_at before) going tenure open_one sound.placed o.board j (has_ended o) o.activity step.call step.datum
+              (view_at after o.board) other.0 at
+        ];
+      } in
+      let after_it = rest (open_after going o) more next in (
+        (
+          after.machine,
+          step,
+          record {
+            opening = λ t first. opening_of config lawful bus (view_at before) going tenure o (view_at after o.board) t
+                (first_handshake o.activity o.reply) first move.shown;
+            own = λ t first. own_holds config lawful bus (view_at before) going tenure o (view_at after o.board) t
+                (first_handshake o.activity o.reply) first move.shown;
+            open_holds = λ b is. going_holds config lawful bus (view_at before) going tenure b is;
+            release = λ is. (tenure.held o.board (move.releasing is)).1;
+            apart = λ b is none same. going_apart config lawful bus (view_at before) going tenure o (view_at after o.board) b
+                (first_handshake o.activity o.reply) is none move.shown same;
+          },
+          after_it.0,
+        ),
+        (
+          after.machine,
+          step,
+          more,
+          goes_on config lawful bus (view_at before) going tenure open_one sound.placed o.board (has_ended o) o.activity step.call step.datum
+              (view_at after o.board) at,
+          after_it.1,
+        ),
       )
 
   -- a turn at the index of a board, if there is one
-  placed : (system : SystemState) (slot : ℕ) (place : Option ℕ) (going : Option ℕ) (later : List Observation) → board_in_slot config slot ≡ place
-      → IsSound (stepper_of config system) going
-      → ((next : Option ℕ) → IsSound (stepper_turn_at config (stepper_of config system) place) next
-      → IsOrderly config (stepper_turn_at config (stepper_of config system) place).machine next later)
-      → IsOrderly config system.machine going (option_to_list (observed_at config (stepper_of config system) place) ++ later)
-  placed system slot None going later is sound rest = rest going sound
-  placed system slot (Some board) going later is sound rest =
+  turned_at : (system : SystemState) (slot : ℕ) (place : Option ℕ) (going : Option ℕ) (open_one : Option OpenTransfer) (later : List Observation)
+      → board_in_slot config slot ≡ place → IsSound (stepper_of config system) going open_one
+      → ((next : Option ℕ) (more : Option OpenTransfer) → IsSound (stepper_turn_at config (stepper_of config system) place) next more
+      → Follows (stepper_turn_at config (stepper_of config system) place).machine next more later)
+      → Follows system.machine going open_one (option_to_list (observed_at config (stepper_of config system) place) ++ later)
+  turned_at system slot None going open_one later is sound rest = rest going open_one sound
+  turned_at system slot (Some board) going open_one later is sound rest =
       let stepper : StepperView = stepper_of config system in
-      turned board (observed config stepper board) stepper (stepper_turn config stepper board) going later (place_below config.boards slot board is)
-      (turn_shown config system board (slice_get system.script_states board) (place_below config.boards slot board is) refl)
-      (system_turn config system board (slice_get system.script_states board) refl) sound rest
+      let there = place_below config.boards slot board is in
+      turned board (observed config stepper board) stepper (stepper_turn config stepper board) going open_one later there
+      (system_turn config system board (slice_get system.script_states board) there refl) sound rest
 
-  -- after some turns, what later turns did is orderly
-  later_orderly : (before slots : List ℕ) (going : Option ℕ) → IsSound (stepper_of config (state_after config before)) going
-      → IsOrderly config (state_after config before).machine going (observed_from config (stepper_of config (state_after config before)) slots)
-  later_orderly before [] going sound = tt
-  later_orderly before (slot ∷ slots) going sound =
+  -- after some turns, what later turns did is in order
+  later_orderly : (before slots : List ℕ) (going : Option ℕ) (open_one : Option OpenTransfer)
+      → IsSound (stepper_of config (state_after config before)) going open_one
+      → Follows (state_after config before).machine going open_one (observed_from config (stepper_of config (state_after config before)) slots)
+  later_orderly before [] going open_one sound = (tt, tt)
+  later_orderly before (slot ∷ slots) going open_one sound =
       let system = state_after config before in
       let stepper : StepperView = stepper_of config system in
       let place = board_in_slot config slot in
       let next : stepper_turn_at config stepper place ≡ stepper_of config (state_after config (before ++ slot ∷ []))
       = turn_more config stepper before slot place refl refl in
-      placed system slot place going (observed_from config (stepper_turn_at config stepper place) slots) refl sound
-      (λ new rest. subst (λ (s : StepperView). IsOrderly config s.machine new (observed_from config s slots)) (sym next)
-      (later_orderly (before ++ slot ∷ []) slots new (subst (λ (s : StepperView). IsSound s new) next rest)))
+      turned_at system slot place going open_one (observed_from config (stepper_turn_at config stepper place) slots) refl sound
+      (λ new more rest. subst (λ (s : StepperView). Follows s.machine new more (observed_from config s slots)) (sym next)
+      (later_orderly (before ++ slot ∷ []) slots new more (subst (λ (s : StepperView). IsSound s new more) next rest)))
 
   -- at the start no line has begun
   start_view : (board : ℕ) (found : Option (List ScriptLine)) → slice_get config.scripts board ≡ found → view_at (stepper_of config (initial_state config)) board ≡ None
@@ -127,13 +169,21 @@ module _ (config : Configuration) (lawful : IsLawful config) where
       none (Some script) = refl
 
   -- the invariant holds at the start
-  start_sound : IsSound (stepper_of config (initial_state config)) None
+  start_sound : IsSound (stepper_of config (initial_state config)) None None
   start_sound = record {
-    held = λ j now. absurd (false≢true (sym (ap holding (start_view j (slice_get config.scripts j) refl)) ∙ now));
-    amid_open = λ j. ap amid (start_view j (slice_get config.scripts j) refl);
+    tenure = record {
+      held = λ j now. absurd (false≢true (sym (ap holding (start_view j (slice_get config.scripts j) refl)) ∙ now));
+      amid_open = λ j. ap amid (start_view j (slice_get config.scripts j) refl);
+    };
+    placed = λ j. ap current (start_view j (slice_get config.scripts j) refl);
   }
 
-  -- the events of turns are orderly
+  -- the events of turns are in order
   pub run_orderly : (slots : List ℕ) → IsOrderly config (initial_state config).machine None (observations config slots)
   unfolding observations state_after
-  run_orderly slots = later_orderly [] slots None start_sound
+  run_orderly slots = (later_orderly [] slots None None start_sound).0
+
+  -- and so are the data that they show
+  pub run_data : (slots : List ℕ) → AreDataInOrder config (initial_state config).machine None (observations config slots)
+  unfolding observations state_after
+  run_data slots = (later_orderly [] slots None None start_sound).1

@@ -41,7 +41,7 @@ module _ (config : Configuration) (lawful : IsLawful config) where
 
   module _ (bus : Arbitration) (views : ℕ → Option TaskView) (going : Option ℕ) (tenure : IsTenure bus views going) where
     -- at most one processor holds the bus
-    alone : (i j : ℕ) → holding (views i) ≡ true → holding (views j) ≡ true → i ≡ j
+    pub alone : (i j : ℕ) → holding (views i) ≡ true → holding (views j) ≡ true → i ≡ j
     alone i j first second =
         let a = tenure.held i first in
         let b = tenure.held j second in

@@ -12,7 +12,6 @@ use Rattle.vme_master.specs.declared.job.BusJob.{BusJob}
 use Rattle.vme_master.specs.declared.job.LocalJob.{LocalJob}
 use Rattle.vme_master.specs.declared.job.Job.{Job}
 use Rattle.vme_master.specs.declared.job.Job.TheVariants.{Bus, Local}
-use Rattle.vme_master.specs.declared.outcome.Outcome.{Outcome}
 use Rattle.vme_master.specs.declared.phase.Phase.{Phase}
 use Rattle.vme_master.specs.declared.phase.Phase.TheVariants as phases
 use Rattle.vme_master.specs.CurrentData.{DatumAt, bus_datum}
@@ -46,21 +45,18 @@ use Rattle.vme_stepper.specs.Steppers.{ProcessorView, StepperView, processor_ans
 use Rattle.vme_stepper.specs.Lines.{begun_by, lines_begun, processor_begun, stepper_begun_at, line_in, line_of}
 use Rattle.vme_trace.specs.declared.observation.Observation.{Observation}
 use Rattle.vme_trace.specs.Activities.{activity_of}
-use Rattle.vme_trace.specs.Observations.{observed_by, line_observed, observed}
+use Rattle.vme_trace.specs.Observations.{call_observed, observed_by, line_observed, observed}
+use Rattle.vme_trace_laws.specs.Commands.{IsTransferShown}
 use Rattle.vme_trace_laws.specs.Steps.{IsShownAs, IsStepShown}
 use Rattle.vme_trace_laws.proofs.turns.Data.{IsDue, given_due}
 use Rattle.vme_trace_laws.proofs.turns.Elements.{get_set}
 use Rattle.vme_trace_laws.proofs.turns.Jobs.{IsOwnTransfer, IsOwnJob, IsOwnCurrent, IsOwnAttempt, IsOwnTask, given_own}
-use Rattle.vme_trace_laws.proofs.turns.Requested.{IsRequestedTask, given_requested, line_shows}
-use Rattle.vme_trace_laws.proofs.turns.Views.{line_view}
-
--- the call of a next step
-pub own_call : (a b : Call) → ◌≡◌ {A = NextStep Outcome} (Invokes a) (Invokes b) → a ≡ b
-own_call a b same = cc
+use Rattle.vme_trace_laws.proofs.turns.Requested.{IsRequestedTask, given_requested, ShowsAt, line_shows, own_call}
+use Rattle.vme_trace_laws.proofs.turns.Views.{line_view, view_after}
 
 module _ (board slot level : ℕ) where
   -- what a line is shown to do is its call
-  abbrev IsShown : LineTask → Call → Type 0
+  abbrev pub IsShown : LineTask → Call → Type 0
   IsShown task call = IsShownAs board slot level (activity_of task call) call
 
   -- a datum of a transfer, or the release of the bus if no board is selected
@@ -143,7 +139,7 @@ module _ (board slot level : ℕ) where
   attempt_shown left (tasks.Shared v) call own made = shared_shown left v.job v.current call own.2 made
 
   -- the call of a line
-  task_shown_as : (task : LineTask) (call : Call) → IsOwnTask board slot level task → line_to_do task ≡ Invokes call → IsShown task call
+  pub task_shown_as : (task : LineTask) (call : Call) → IsOwnTask board slot level task → line_to_do task ≡ Invokes call → IsShown task call
   task_shown_as (Refused fault) call own made = absurd cc
   task_shown_as (Running a) call own made = attempt_shown a.left a.attempt call own made
 
@@ -221,13 +217,20 @@ module _ (config : Configuration) (board : ℕ) (machine : Machine) where
       (by_next processor task line (given_of (reply ∷ replies)) (line_to_do task) lines refl refl
       (λ answer. idle_begins lines (processor_answered processor answer) refl))
 
-  -- what a line does next is one step of the machine
-  next_shown : (number : ℕ) (task : LineTask) (line : Line) (given : Inputs) (next : NextStep LineReply) → board < length config.boards
-      → task ≡ line_given config board line given → line_to_do task ≡ next
-      → IsTurnShown config machine (observed_by config machine board (number, task) next) (machine_by next)
-  next_shown number task line given NotStarted there is same = refl
-  next_shown number task line given (Returns answer) there is same = refl
-  next_shown number task line given (Invokes call) there is same = record {
+  -- what the event of a line's call shows of its transfer
+  pub call_shows : (task : LineTask) (line : Line) (given : Inputs) (call : Call) → task ≡ line_given config board line given
+      → line_to_do task ≡ Invokes call
+      → (let made = machine_step machine board call in
+      ShowsAt config (activity_of task call) call made.1 (line_view task) (view_after (Some made.1) (line_view task)))
+  call_shows task line given call is same =
+      line_shows config machine board task call (subst (IsRequestedTask (entries_of config.boards)) (sym is) (given_requested config board line given))
+      (subst (λ (one : LineTask). IsDue (line_view one)) (sym is) (given_due config board line given)) same
+
+  -- a line's call is one step of the machine, if its event shows its transfer
+  abbrev pub call_shown : (number : ℕ) (task : LineTask) (line : Line) (given : Inputs) (call : Call) → board < length config.boards
+      → task ≡ line_given config board line given → line_to_do task ≡ Invokes call → IsTransferShown config (activity_of task call) call
+      → IsStepShown config machine (call_observed config machine board (number, task) call) (machine_step machine board call).0
+  call_shown number task line given call there is same shown = record {
     call = call;
     there = there;
     below = next_below config board line given call there (sym (by_the_given config board line given) ∙ ap line_to_do (sym is) ∙ same);
@@ -235,11 +238,19 @@ module _ (config : Configuration) (board : ℕ) (machine : Machine) where
     level = refl;
     shown = task_shown_as board (slot_at config board) (level_at config board) task call
         (subst (IsOwnTask board (slot_at config board) (level_at config board)) (sym is) (given_own config board line given)) same;
-    datum = line_shows config task call (subst (IsRequestedTask (entries_of config.boards)) (sym is) (given_requested config board line given))
-        (subst (λ (one : LineTask). IsDue (line_view one)) (sym is) (given_due config board line given)) same;
+    datum = shown;
     step = refl;
     grant = refl;
   }
+
+  -- what a line does next is one step of the machine
+  next_shown : (number : ℕ) (task : LineTask) (line : Line) (given : Inputs) (next : NextStep LineReply) → board < length config.boards
+      → task ≡ line_given config board line given → line_to_do task ≡ next
+      → IsTurnShown config machine (observed_by config machine board (number, task) next) (machine_by next)
+  next_shown number task line given NotStarted there is same = refl
+  next_shown number task line given (Returns answer) there is same = refl
+  next_shown number task line given (Invokes call) there is same =
+      call_shown number task line given call there is same (call_shows task line given call is same).0
 
   -- what the current line does next, if there is one, is one step of the machine
   line_shown : (number : ℕ) (at : Option LineTask) → board < length config.boards → IsGiven at

@@ -1,8 +1,10 @@
 -- The transfer or the local command that a line's task is at.
-use Rattle.std.proofs.Common.{◌≡◌, ◌==◌, Bool, true, false, not, Option, Some, None, refl, sym, ◌∙◌, inl, inr}
+use Rattle.std.proofs.Common.{◌≡◌, ℕ, ◌==◌, Bool, true, false, not, if◌then◌else◌, Option, Some, None, refl, sym, ◌∙◌, inl, inr}
 use Rattle.std.specs.Prelude.{option_map}
 use Rattle.std.proofs.lemmas.Bool.{cases_Bool, false≢true}
+use Rattle.vme_cycle.specs.Lawful.{Transfer}
 use Rattle.vme_core.specs.declared.event.EventReply.{EventReply}
+use Rattle.vme_master.specs.declared.job.BusJob.{BusJob}
 use Rattle.vme_master.specs.declared.job.Job.{Job}
 use Rattle.vme_master.specs.declared.job.Job.TheVariants.{Bus, Local}
 use Rattle.vme_master.specs.declared.phase.Phase.{Phase}
@@ -90,26 +92,63 @@ amid_none v none =
       | inr is ↦ is
     ]
 
--- two processors are alike: both hold the bus or neither, and both are between two data or neither
+-- the transfer and the number of its next datum, if a transfer is between two of its data in a phase
+abbrev pub phase_current : BusJob → Phase → Option (Transfer × ℕ)
+phase_current job (phases.Transferring i) = if i == 0 then None else Some (job.transfer, i)
+phase_current job phase = None
+
+-- the same of a job
+abbrev pub job_current : Job → Phase → Option (Transfer × ℕ)
+job_current (Bus job) phase = phase_current job phase
+job_current (Local job) phase = None
+
+-- the same of a processor
+abbrev pub current : Option TaskView → Option (Transfer × ℕ)
+current None = None
+current (Some t) = job_current t.job t.phase
+
+-- a job that does not hold the bus is between no data
+job_current_none : (job : Job) (phase : Phase) → job_holds job phase ≡ false → job_current job phase ≡ None
+job_current_none (Bus job) (phases.Transferring i) none = absurd (false≢true (sym none))
+job_current_none (Bus job) (phases.Releasing berr) none = refl
+job_current_none (Bus job) phases.New none = refl
+job_current_none (Bus job) phases.Requesting none = refl
+job_current_none (Bus job) phases.Polling none = refl
+job_current_none (Bus job) (phases.Finished berr) none = refl
+job_current_none (Bus job) phases.Denied none = refl
+job_current_none (Local job) phase none = refl
+
+-- a processor that does not hold the bus is between no data
+pub current_none : (v : Option TaskView) → holding v ≡ false → current v ≡ None
+current_none None none = refl
+current_none (Some t) none = job_current_none t.job t.phase none
+
+-- two processors are alike: both hold the bus or neither, and both are between the same two data or between none
 pub record IsLike (v w : Option TaskView) : Type 0 where
   pub held : holding v ≡ holding w
   pub between : amid v ≡ amid w
+  pub datum : current v ≡ current w
 
 -- a processor is like itself
 pub like_same : (v : Option TaskView) → IsLike v v
-like_same v = record { held = refl; between = refl }
+like_same v = record { held = refl; between = refl; datum = refl }
 
 -- the other way round
 pub like_back : (v w : Option TaskView) → IsLike v w → IsLike w v
-like_back v w like = record { held = sym like.held; between = sym like.between }
+like_back v w like = record { held = sym like.held; between = sym like.between; datum = sym like.datum }
 
 -- one after another
 pub like_on : (u v w : Option TaskView) → IsLike u v → IsLike v w → IsLike u w
-like_on u v w first second = record { held = first.held ∙ second.held; between = first.between ∙ second.between }
+like_on u v w first second = record {
+  held = first.held ∙ second.held;
+  between = first.between ∙ second.between;
+  datum = first.datum ∙ second.datum;
+}
 
 -- processors that do not hold the bus are alike
 pub like_idle : (v w : Option TaskView) → holding v ≡ false → holding w ≡ false → IsLike v w
 like_idle v w first second = record {
   held = first ∙ sym second;
   between = amid_none v first ∙ sym (amid_none w second);
+  datum = current_none v first ∙ sym (current_none w second);
 }
