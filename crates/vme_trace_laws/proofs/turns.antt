@@ -22,6 +22,7 @@ pub mod Walks
 pub mod Currents
 pub mod Orders
 pub mod AddressStrobes
+pub mod AddressLines
 pub mod RunStrobes
 pub mod BusStrobes
 pub mod Granted

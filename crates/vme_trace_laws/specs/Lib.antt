@@ -1,5 +1,6 @@
 pub mod Shown
 pub mod Events
+pub mod Addresses
 pub mod Transfers
 pub mod Commands
 pub mod Steps

@@ -4,6 +4,7 @@
 //! line.
 #![tactic(auto)]
 
+mod addresses;
 mod events;
 mod grants;
 mod handshakes;
@@ -11,6 +12,7 @@ mod polls;
 mod runs;
 mod strobes;
 
+pub use addresses::the_address_stays_over_a_transfer;
 pub use events::{events_end_at_rest, events_keep_the_rules, events_show_their_data};
 pub use grants::{grants_end_at_the_slot_that_takes_them, grants_go_to_slots_that_request};
 pub use handshakes::{

@@ -63,7 +63,7 @@ strobe_parts boards n o k v =
     ∙ after_append code k first second v
 
 -- the handshakes of an event: none, one that is early, or an early one that goes on in a late one
-abbrev ArePaired : Option Handshake → Option Handshake → Type 0
+abbrev pub ArePaired : Option Handshake → Option Handshake → Type 0
 ArePaired None None = Unit {0}
 ArePaired None (Some u) = ⊥
 ArePaired (Some t) None = t.late ≡ false
@@ -84,7 +84,7 @@ datum_paired d reply false plain =
     subst (ArePaired (Some (first_of_datum d reply))) (sym second) (half_paired d reply (half_of d reply) plain refl)
 
 -- the handshakes of an event
-event_paired : (activity : Activity) (reply : EventReply) → ArePaired (first_handshake activity reply) (second_handshake activity reply)
+pub event_paired : (activity : Activity) (reply : EventReply) → ArePaired (first_handshake activity reply) (second_handshake activity reply)
 event_paired Requests reply = tt
 event_paired Polls reply = tt
 event_paired (Releases None) reply = tt
