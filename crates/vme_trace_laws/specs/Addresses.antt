@@ -24,13 +24,17 @@ IsAddressLine line t value =
 abbrev pub CarriesNoData : Handshake → Type 0
 CarriesNoData t = (is_wide t ≡ false) × (t.clears ≡ false)
 
--- the handshakes of an event carry no data on the address lines
-abbrev pub IsPlain : Observation → Type 0
-IsPlain o = (t : Handshake) → IsHandshakeOf o t → CarriesNoData t
+-- WRITE* does not fall within a handshake
+abbrev pub KeepsWrite : Handshake → Type 0
+KeepsWrite t = t.falls ≡ false
 
--- an event carries no data on the address lines, and ends no transfer
-abbrev pub IsAmid : Observation → Type 0
-IsAmid o = IsPlain o × (has_ended o ≡ false)
+-- each handshake of an event has a property
+abbrev pub EachHandshake : (Handshake → Type 0) → Observation → Type 0
+EachHandshake P o = (t : Handshake) → IsHandshakeOf o t → P t
+
+-- each handshake of an event has a property, and none ends a transfer
+abbrev pub IsAmid : (Handshake → Type 0) → Observation → Type 0
+IsAmid P o = EachHandshake P o × (has_ended o ≡ false)
 
 -- the edge at which the address is released, if a transfer ends with the event
 abbrev pub release_edge_of : Observation → ℕ

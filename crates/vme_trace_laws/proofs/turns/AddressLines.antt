@@ -21,9 +21,10 @@ use Rattle.vme_trace.specs.Bus.{address_number, handshake_changes, some_handshak
 use Rattle.vme_trace.specs.Slots.{ends_with, has_ended, slot_changes}
 use Rattle.vme_trace.specs.Events.{name_changes, holder_changes, request_line_changes, bus_changes, event_changes}
 use Rattle.vme_trace.specs.Shown.{is_code, value_after, value_at, after_event, after_events, value_in_run}
-use Rattle.vme_trace_laws.specs.Addresses.{IsAddressLine, CarriesNoData, IsPlain, release_edge_of, IsAmid}
+use Rattle.vme_trace_laws.specs.Addresses.{IsAddressLine, CarriesNoData, KeepsWrite, EachHandshake, release_edge_of, IsAmid}
+use Rattle.vme_trace_laws.specs.Shown.{write_line}
 use Rattle.vme_trace_laws.specs.Transfers.{open_after}
-use Rattle.vme_trace_laws.proofs.waves.Addresses.{modifier_after, address_after, long_word_after}
+use Rattle.vme_trace_laws.proofs.waves.Addresses.{modifier_after, address_after, long_word_after, write_after}
 use Rattle.vme_trace_laws.proofs.waves.Afters.{silent, after_append}
 use Rattle.vme_trace_laws.proofs.waves.Events.{name_quiet, holder_quiet, request_line_quiet}
 use Rattle.vme_trace_laws.proofs.waves.Pulses.{pulse}
@@ -35,38 +36,42 @@ use Rattle.vme_trace_laws.proofs.turns.Handshakes.{or_none}
 use Rattle.vme_trace_laws.proofs.turns.Orders.{IsOrderly, run_orderly}
 
 -- a line has a value from the begin of a handshake that begins a transfer until the address is released
-record IsAddressed (x : ℕ) (value : Handshake → Value) (rest : Value) : Type 0 where
+record IsAddressed (P : Handshake → Type 0) (x : ℕ) (value : Handshake → Value) (rest : Value) : Type 0 where
   past : 72 < x
-  each : (k : ℕ) (t : Handshake) (v : Value) → CarriesNoData t
+  each : (k : ℕ) (t : Handshake) (v : Value) → P t
       → value_after (bus_code x) k (handshake_changes t) v ≡ pulse (value t) rest t.opens t.ends 0 (edge_of t 9) k v
 
 -- the address modifier
-modifier_line : IsAddressed 74 (λ t. Number 6 t.lines.am.code) Released
+modifier_line : IsAddressed CarriesNoData 74 (λ t. Number 6 t.lines.am.code) Released
 modifier_line = record { past = omega arith; each = λ k t v plain. modifier_after k t v }
 
 -- A31 to A01
-address_line : IsAddressed 75 (λ t. Number 32 (address_number t.lines)) Released
+address_line : IsAddressed CarriesNoData 75 (λ t. Number 32 (address_number t.lines)) Released
 address_line = record { past = omega arith; each = λ k t v plain. address_after k t v plain.0 plain.1 }
 
 -- LWORD*
-long_word_line : IsAddressed 76 (λ t. level_of t.lines.strobes.lword) Free
+long_word_line : IsAddressed CarriesNoData 76 (λ t. level_of t.lines.strobes.lword) Free
 long_word_line = record { past = omega arith; each = λ k t v plain. long_word_after k t v plain.0 plain.1 }
 
--- the handshakes of an event carry no data on the address lines
-abbrev ArePlain : Option Handshake → Type 0
-ArePlain None = Unit {0}
-ArePlain (Some t) = CarriesNoData t
+-- WRITE*
+level_line : IsAddressed KeepsWrite 77 (λ t. level_of t.lines.write) Free
+level_line = record { past = omega arith; each = λ k t v still. write_after k t v still }
 
--- those of a plain event
-plain_found : (found : Option Handshake) → ((t : Handshake) → found ≡ Some t → CarriesNoData t) → ArePlain found
-plain_found None each = tt
-plain_found (Some t) each = each t refl
+-- a handshake, if there is one, has a property
+abbrev HasIt : (Handshake → Type 0) → Option Handshake → Type 0
+HasIt P None = Unit {0}
+HasIt P (Some t) = P t
+
+-- each handshake of an event has it
+has_it : (P : Handshake → Type 0) (found : Option Handshake) → ((t : Handshake) → found ≡ Some t → P t) → HasIt P found
+has_it P None each = tt
+has_it P (Some t) each = each t refl
 
 -- the edge at which the address is released, if it is
 abbrev released_at : Option Handshake → ℕ
 released_at second = if is_some second then 19 else 10
 
-module _ (x : ℕ) (value : Handshake → Value) (rest : Value) (line : IsAddressed x value rest) where
+module _ (P : Handshake → Type 0) (x : ℕ) (value : Handshake → Value) (rest : Value) (line : IsAddressed P x value rest) where
   -- the value with which a transfer begins, if it does
   abbrev value_of : Option Handshake → Value
   value_of None = rest
@@ -100,7 +105,7 @@ module _ (x : ℕ) (value : Handshake → Value) (rest : Value) (line : IsAddres
   both first second v opens ends opens_later ends_later up up_later k goes_on none edge = rw (goes_on, none, edge) refl
 
   -- the line after the changes of an edge of both handshakes
-  pair_after : (first second : Option Handshake) → ArePaired first second → ArePlain first → ArePlain second → (k : ℕ) (v : Value)
+  pair_after : (first second : Option Handshake) → ArePaired first second → HasIt P first → HasIt P second → (k : ℕ) (v : Value)
       → value_after (bus_code x) k (some_handshake_changes second) (value_after (bus_code x) k (some_handshake_changes first) v)
       ≡ pulse (value_of first) rest (opens_with first) (ends_with first || ends_with second) 0 (released_at second) k v
   pair_after None None pair one two k v = none_quiet (bus_code x) k _ ∙ none_quiet (bus_code x) k v
@@ -121,7 +126,7 @@ module _ (x : ℕ) (value : Handshake → Value) (rest : Value) (line : IsAddres
   release_order true = omega arith
   release_order false = omega arith
 
-  module _ (boards n : ℕ) (o : Observation) (plain : IsPlain o) where
+  module _ (boards n : ℕ) (o : Observation) (plain : EachHandshake P o) where
     -- the line at an edge of an event
     line_at : (k : ℕ) (v : Value) → value_at (bus_code x) (event_changes boards n o) v k
         ≡ pulse_at (value_of (first_handshake o.activity o.reply)) rest (opens_with (first_handshake o.activity o.reply)) (has_ended o) 0
@@ -132,8 +137,8 @@ module _ (x : ℕ) (value : Handshake → Value) (rest : Value) (line : IsAddres
         (release_order (is_some (second_handshake o.activity o.reply)))
         (λ j w. line_parts boards n o j w
         ∙ pair_after (first_handshake o.activity o.reply) (second_handshake o.activity o.reply) (event_paired o.activity o.reply)
-        (plain_found (first_handshake o.activity o.reply) (λ t first. plain t (inl first)))
-        (plain_found (second_handshake o.activity o.reply) (λ t second. plain t (inr second))) j w) k
+        (has_it P (first_handshake o.activity o.reply) (λ t first. plain t (inl first)))
+        (has_it P (second_handshake o.activity o.reply) (λ t second. plain t (inr second))) j w) k
 
     -- a value from its begin on
     begun : (opens late : Bool) (first v : Value) → opens ≡ true → late ≡ true → (if opens && late then first else v) ≡ first
@@ -205,29 +210,29 @@ module _ (x : ℕ) (value : Handshake → Value) (rest : Value) (line : IsAddres
   module _ (config : Configuration) where
     -- over events that end no transfer, from one that is open on, the line keeps its value, up to the release in the last event
     over_events : (n : ℕ) (between later : List Observation) (p : Observation) (before : Machine) (b k : ℕ) (v : Value)
-        → IsOrderly config before (Some b) (between ++ p ∷ later) → All IsAmid between → IsPlain p → k < release_edge_of p
+        → IsOrderly config before (Some b) (between ++ p ∷ later) → All (IsAmid P) between → EachHandshake P p → k < release_edge_of p
         → (m : ℕ) → value_at (bus_code x) (event_changes (length config.boards) m p) (after_events (bus_code x) (length config.boards) n between v) k ≡ v
     over_events n [] later p before b k v run amid plain soon m =
         line_kept (length config.boards) m p plain k v (begins_none (first_handshake p.activity p.reply) b p.board run.2.opening) soon
     over_events n (e ∷ between) later p before b k v run amid plain soon m =
-        let own = All-head IsAmid e between amid in
+        let own = All-head (IsAmid P) e between amid in
         let next = open_stays (is_some (first_handshake e.activity e.reply)) (has_ended e) b e.board own.1 in
         let here : after_event (bus_code x) (length config.boards) (n + 1) e v ≡ v
         = kept_last (length config.boards) (n + 1) e own.0 v (begins_none (first_handshake e.activity e.reply) b e.board run.2.opening) own.1 in
         ap (λ (w : Value). value_at (bus_code x) (event_changes (length config.boards) m p) (after_events (bus_code x) (length config.boards) (n + 1) between w) k)
         here
         ∙ over_events (n + 1) between later p run.0 next.0 k v
-        (subst (λ (going : Option ℕ). IsOrderly config run.0 going (between ++ p ∷ later)) next.1 run.3) (All-tail IsAmid e between amid) plain soon m
+        (subst (λ (going : Option ℕ). IsOrderly config run.0 going (between ++ p ∷ later)) next.1 run.3) (All-tail (IsAmid P) e between amid) plain soon m
 
     -- over the events of a transfer from its first on
     over_transfer : (n : ℕ) (events between later : List Observation) (o p : Observation) (t : Handshake) (before : Machine) (going : Option ℕ) (k : ℕ)
         → (v : Value) → IsOrderly config before going (events ++ o ∷ (between ++ p ∷ later)) → first_handshake o.activity o.reply ≡ Some t
-        → t.opens ≡ true → All IsAmid (o ∷ between) → IsPlain p → k < release_edge_of p
+        → t.opens ≡ true → All (IsAmid P) (o ∷ between) → EachHandshake P p → k < release_edge_of p
         → (m : ℕ)
         → value_at (bus_code x) (event_changes (length config.boards) m p) (after_events (bus_code x) (length config.boards) n (events ++ o ∷ between) v) k
         ≡ value t
     over_transfer n [] between later o p t before going k v run first opens amid plain soon m =
-        let own = All-head IsAmid o between amid in
+        let own = All-head (IsAmid P) o between amid in
         let next : open_after going o ≡ Some o.board
         = opened (is_some (first_handshake o.activity o.reply)) (has_ended o) o.board going (ap is_some first) own.1 in
         let here : after_event (bus_code x) (length config.boards) (n + 1) o v ≡ value t
@@ -235,7 +240,7 @@ module _ (x : ℕ) (value : Handshake → Value) (rest : Value) (line : IsAddres
         ap (λ (w : Value). value_at (bus_code x) (event_changes (length config.boards) m p) (after_events (bus_code x) (length config.boards) (n + 1) between w) k)
         here
         ∙ over_events (n + 1) between later p run.0 o.board k (value t)
-        (subst (λ (after : Option ℕ). IsOrderly config run.0 after (between ++ p ∷ later)) next run.3) (All-tail IsAmid o between amid) plain soon m
+        (subst (λ (after : Option ℕ). IsOrderly config run.0 after (between ++ p ∷ later)) next run.3) (All-tail (IsAmid P) o between amid) plain soon m
     over_transfer n (e ∷ events) between later o p t before going k v run first opens amid plain soon m =
         over_transfer (n + 1) events between later o p t run.0 (open_after going e) k (after_event (bus_code x) (length config.boards) (n + 1) e v) run.3 first
         opens amid plain soon m
@@ -243,7 +248,7 @@ module _ (x : ℕ) (value : Handshake → Value) (rest : Value) (line : IsAddres
     -- over the events of a transfer of a run
     over_run : (lawful : IsLawful config) (slots : List ℕ) (events between later : List Observation) (o p : Observation) (t : Handshake) (k : ℕ) (v : Value)
         → observations config slots ≡ events ++ o ∷ (between ++ p ∷ later) → first_handshake o.activity o.reply ≡ Some t → t.opens ≡ true
-        → All IsAmid (o ∷ between) → IsPlain p → k < release_edge_of p
+        → All (IsAmid P) (o ∷ between) → EachHandshake P p → k < release_edge_of p
         → value_in_run (bus_code x) (length config.boards) (events ++ o ∷ between) p v k ≡ value t
     over_run lawful slots events between later o p t k v whole first opens amid plain soon =
         over_transfer 0 events between later o p t (initial_state config).machine None k v
@@ -251,30 +256,38 @@ module _ (x : ℕ) (value : Handshake → Value) (rest : Value) (line : IsAddres
         (length (events ++ o ∷ between) + 1)
 
 -- in the event that begins a transfer, a line of the address has its value until the release
-pub address_begins : (boards n : ℕ) (o : Observation) (t : Handshake) (line : Code) (value before : Value) (k : ℕ) → IsPlain o
+pub address_begins : (boards n : ℕ) (o : Observation) (t : Handshake) (line : Code) (value before : Value) (k : ℕ) → EachHandshake CarriesNoData o
     → first_handshake o.activity o.reply ≡ Some t → t.opens ≡ true → IsAddressLine line t value → k < release_edge_of o
     → value_at line (event_changes boards n o) before k ≡ value
 address_begins boards n o t line value before k plain first opens (inl is) soon =
     subst (λ (code : Code). value_at code (event_changes boards n o) before k ≡ value) (sym is.0)
-    (line_begins 74 _ Released modifier_line boards n o plain t k before first opens soon ∙ sym is.1)
+    (line_begins CarriesNoData 74 _ Released modifier_line boards n o plain t k before first opens soon ∙ sym is.1)
 address_begins boards n o t line value before k plain first opens (inr (inl is)) soon =
     subst (λ (code : Code). value_at code (event_changes boards n o) before k ≡ value) (sym is.0)
-    (line_begins 75 _ Released address_line boards n o plain t k before first opens soon ∙ sym is.1)
+    (line_begins CarriesNoData 75 _ Released address_line boards n o plain t k before first opens soon ∙ sym is.1)
 address_begins boards n o t line value before k plain first opens (inr (inr is)) soon =
     subst (λ (code : Code). value_at code (event_changes boards n o) before k ≡ value) (sym is.0)
-    (line_begins 76 _ Free long_word_line boards n o plain t k before first opens soon ∙ sym is.1)
+    (line_begins CarriesNoData 76 _ Free long_word_line boards n o plain t k before first opens soon ∙ sym is.1)
 
 -- in a later event of the transfer it has the same
 pub address_stays : (config : Configuration) → IsLawful config → (slots : List ℕ) (events between later : List Observation) (o p : Observation)
     → (t : Handshake) (line : Code) (value before : Value) (k : ℕ) → observations config slots ≡ events ++ o ∷ (between ++ p ∷ later)
-    → first_handshake o.activity o.reply ≡ Some t → t.opens ≡ true → All IsAmid (o ∷ between) → IsPlain p → IsAddressLine line t value
+    → first_handshake o.activity o.reply ≡ Some t → t.opens ≡ true → All (IsAmid CarriesNoData) (o ∷ between) → EachHandshake CarriesNoData p → IsAddressLine line t value
     → k < release_edge_of p → value_in_run line (length config.boards) (events ++ o ∷ between) p before k ≡ value
 address_stays config lawful slots events between later o p t line value before k whole first opens amid plain (inl is) soon =
     subst (λ (code : Code). value_in_run code (length config.boards) (events ++ o ∷ between) p before k ≡ value) (sym is.0)
-    (over_run 74 _ Released modifier_line config lawful slots events between later o p t k before whole first opens amid plain soon ∙ sym is.1)
+    (over_run CarriesNoData 74 _ Released modifier_line config lawful slots events between later o p t k before whole first opens amid plain soon ∙ sym is.1)
 address_stays config lawful slots events between later o p t line value before k whole first opens amid plain (inr (inl is)) soon =
     subst (λ (code : Code). value_in_run code (length config.boards) (events ++ o ∷ between) p before k ≡ value) (sym is.0)
-    (over_run 75 _ Released address_line config lawful slots events between later o p t k before whole first opens amid plain soon ∙ sym is.1)
+    (over_run CarriesNoData 75 _ Released address_line config lawful slots events between later o p t k before whole first opens amid plain soon ∙ sym is.1)
 address_stays config lawful slots events between later o p t line value before k whole first opens amid plain (inr (inr is)) soon =
     subst (λ (code : Code). value_in_run code (length config.boards) (events ++ o ∷ between) p before k ≡ value) (sym is.0)
-    (over_run 76 _ Free long_word_line config lawful slots events between later o p t k before whole first opens amid plain soon ∙ sym is.1)
+    (over_run CarriesNoData 76 _ Free long_word_line config lawful slots events between later o p t k before whole first opens amid plain soon ∙ sym is.1)
+
+-- and so has WRITE*, if it does not fall within the transfer
+pub write_stays : (config : Configuration) → IsLawful config → (slots : List ℕ) (events between later : List Observation) (o p : Observation)
+    → (t : Handshake) (before : Value) (k : ℕ) → observations config slots ≡ events ++ o ∷ (between ++ p ∷ later)
+    → first_handshake o.activity o.reply ≡ Some t → t.opens ≡ true → All (IsAmid KeepsWrite) (o ∷ between) → EachHandshake KeepsWrite p
+    → k < release_edge_of p → value_in_run write_line (length config.boards) (events ++ o ∷ between) p before k ≡ level_of t.lines.write
+write_stays config lawful slots events between later o p t before k whole first opens amid still soon =
+    over_run KeepsWrite 77 _ Free level_line config lawful slots events between later o p t k before whole first opens amid still soon
