@@ -18,6 +18,8 @@ pub mod Phases
 pub mod Moves
 pub mod Tenures
 pub mod Goes
+pub mod ArbiterStates
+pub mod Fits
 pub mod Walks
 pub mod Currents
 pub mod Orders

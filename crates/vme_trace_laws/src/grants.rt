@@ -1,5 +1,7 @@
 //! Laws of bus requests and grants. Each function's contract is a law; its body is empty.
-ghost use Rattle.std.specs.Prelude.{◌≡◌, ◌≢◌, ◌≤◌, ◌<◌, ◌+◌, ◌∷◌, ◌++◌, ℕ, List, Some, length};
+ghost use Rattle.std.specs.Prelude.{◌≡◌, ◌≢◌, ◌≤◌, ◌<◌, ◌+◌, ◌∷◌, ◌++◌, ℕ, List, Some, length, not};
+ghost use Rattle.vme_arbiter.specs.Arbitration.{pends};
+ghost use Rattle.vme_stepper.specs.Turns.{state_after};
 ghost use Rattle.vme_script.specs.Configurations.{Configuration};
 ghost use Rattle.vme_script.specs.Lawful.{IsLawful};
 ghost use Rattle.vme_line_task.specs.Scripts.{slot_at, level_at};
@@ -9,9 +11,10 @@ ghost use Rattle.vme_trace.specs.Observations.{observations};
 ghost use Rattle.vme_trace.specs.declared.dump.change.Value.{Value};
 ghost use Rattle.vme_trace.specs.declared.dump.change.Value.TheVariants.{Low, High, Grants};
 ghost use Rattle.vme_trace.specs.declared.dump.edge.TheConstants.{BUSY_FALLS, REQUEST_RISES};
+ghost use Rattle.vme_trace.specs.Changes.{level_of};
 ghost use Rattle.vme_trace.specs.Slots.{grant_edge};
 ghost use Rattle.vme_trace.specs.Events.{event_changes};
-ghost use Rattle.vme_trace.specs.Shown.{value_at, value_in_run};
+ghost use Rattle.vme_trace.specs.Shown.{value_at, value_after_run, value_in_run};
 ghost use Rattle.vme_trace_laws.specs.Events.{grant_lines_in};
 ghost use Rattle.vme_trace_laws.specs.Values.{bus_busy_line, busy_line};
 ghost use Rattle.vme_trace_laws.specs.Grants.{request_line, IsGrantEdge, low_on};
@@ -37,13 +40,18 @@ pub fn grants_end_at_the_slot_that_takes_them()
 
 /// States that after turns of any slots each grant goes to a slot that requests the bus, while BBSY* is
 /// high (IEEE 1014-1987, 3.3): when the grant begins, the slot's bus request line is low, and BBSY* is
-/// high. The grant is on the level of the slot's board.
+/// high. The grant is on the level of the slot's board. After the turns the bus request line of a slot
+/// is low exactly if its request is pending.
 pub fn grants_go_to_slots_that_request()
     ensures slot { (config : Configuration) (slots : List ℕ) (events later : List Observation)
         (o : Observation) (g : Grant) → IsLawful config →
         observations config slots ≡ events ++ o ∷ later → o.grant ≡ Some g →
         (g.board < length config.boards) × (g.slot ≡ slot_at config g.board)
         × (g.level ≡ level_at config g.board) × (g.level ≤ 3) }
+    ensures pending { (config : Configuration) (slots : List ℕ) (board : ℕ) → IsLawful config →
+        board < length config.boards →
+        value_after_run (request_line board) (length config.boards) (observations config slots) High
+        ≡ level_of (not (pends (state_after config slots).machine.bus.object (slot_at config board))) }
     ensures request { (config : Configuration) (slots : List ℕ) (events later : List Observation)
         (o : Observation) (g : Grant) → IsLawful config →
         observations config slots ≡ events ++ o ∷ later → o.grant ≡ Some g →

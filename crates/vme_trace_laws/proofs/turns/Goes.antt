@@ -65,7 +65,7 @@ module _ (config : Configuration) (board : ℕ) (machine : Machine) where
       let rest = after answer in
       let begun = lines_begun config board lines (processor_answered processor answer) in record {
         kept = like_on (view_in begun) None (view_in processor) rest.kept
-            (like_idle None (view_in processor) refl (sym like.held ∙ line_ended task answer is));
+            (like_idle None (view_in processor) refl (sym like.reply ∙ line_ended task answer is));
         went = rest.went;
       }
 

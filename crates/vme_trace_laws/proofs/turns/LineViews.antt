@@ -1,5 +1,5 @@
 -- A line's task after a reply, in terms of the transfer that it is at.
-use Rattle.std.proofs.Common.{◌≡◌, ℕ, ◌&&◌, false, List, Option, Some, None, Result, Ok, Err, refl, ◌∙◌, inl, inr}
+use Rattle.std.proofs.Common.{◌≡◌, ℕ, ◌&&◌, List, Option, Some, None, Result, Ok, Err, refl, ◌∙◌, inl, inr}
 use Rattle.std.specs.Prelude.{nat_lt}
 use Rattle.std.specs.Option.{option_and_then}
 use Rattle.std.proofs.lemmas.Bool.{cases_Bool}
@@ -40,18 +40,18 @@ use Rattle.vme_line_task.specs.Tables.{await_reply, sharing_next, next_wants_ret
 use Rattle.vme_line_task.specs.Machine.{attempt_fresh, attempt_anew, attempt_advance, attempt_to_do, attempts_again, line_fresh, line_started, line_advance, line_to_do}
 use Rattle.vme_line_task.proofs.lemmas.Below.{transferring_makes, waits_makes, shares_makes}
 use Rattle.vme_stepper.specs.Steppers.{line_begun}
-use Rattle.vme_trace_laws.proofs.turns.Views.{current_view, attempt_view, line_view, view_after, job_holds, holding, IsLike, like_same, like_on, like_idle}
+use Rattle.vme_trace_laws.proofs.turns.Views.{current_view, attempt_view, line_view, view_after, job_reply, last_reply, IsLike, like_same, like_on, like_idle}
 
--- a job that has just begun does not hold the bus
-begun_idle : (job : Job) → holding (Some (advance (fresh_task job) None)) ≡ false
+-- a job that has just begun has no reply of the arbiter
+begun_idle : (job : Job) → last_reply (Some (advance (fresh_task job) None)) ≡ None
 begun_idle (Bus job) = refl
 begun_idle (Local job) = refl
 
--- a job that has ended does not hold the bus
-job_ended : (job : Job) (phase : Phase) (read : List ℕ) (outcome : Outcome) → job_next job phase read ≡ Returns outcome → job_holds job phase ≡ false
+-- a job that has ended has no reply of the arbiter
+job_ended : (job : Job) (phase : Phase) (read : List ℕ) (outcome : Outcome) → job_next job phase read ≡ Returns outcome → job_reply job phase ≡ None
 job_ended (Bus job) phases.New read outcome ends = refl
 job_ended (Bus job) phases.Requesting read outcome ends = refl
-job_ended (Bus job) phases.Polling read outcome ends = refl
+job_ended (Bus job) phases.Polling read outcome ends = absurd cc
 job_ended (Bus job) (phases.Transferring i) read outcome ends = absurd cc
 job_ended (Bus job) (phases.Releasing berr) read outcome ends = absurd cc
 job_ended (Bus job) (phases.Finished berr) read outcome ends = refl
@@ -64,37 +64,37 @@ map_ended f NotStarted answer ends = absurd cc
 map_ended f (Invokes call) answer ends = absurd cc
 map_ended f (Returns result) answer ends = (result, refl)
 
--- a task whose mapped next step is a result does not hold the bus
-task_ended : {S : Type 0} (f : Outcome → S) (t : TaskView) (answer : S) → next_map f (to_do t) ≡ Returns answer → holding (Some t) ≡ false
+-- a task whose mapped next step is a result has no reply of the arbiter
+task_ended : {S : Type 0} (f : Outcome → S) (t : TaskView) (answer : S) → next_map f (to_do t) ≡ Returns answer → last_reply (Some t) ≡ None
 task_ended f t answer ends =
     let outcome = map_ended f (to_do t) answer ends in
     job_ended t.job t.phase t.read outcome.0 outcome.1
 
--- a lock or a mailbox whose task has ended does not hold the bus
-current_ended : (current : CurrentTransfer) (answer : LineReply) → sharing_next (current_to_do current) ≡ Returns answer → holding (current_view current) ≡ false
+-- a lock or a mailbox whose task has ended has no reply of the arbiter
+current_ended : (current : CurrentTransfer) (answer : LineReply) → sharing_next (current_to_do current) ≡ Returns answer → last_reply (current_view current) ≡ None
 current_ended (currents.Running stage task) answer ends =
     let end = map_ended answers.Shared (task_shown (to_do task)) answer ends in
     task_ended (λ outcome. outcomes.Denied) task end.0 end.1
 current_ended (currents.Finished end) answer ends = refl
 
--- an attempt that has ended does not hold the bus
-attempt_ended : (a : AttemptTask) (answer : LineReply) → attempt_to_do a ≡ Returns answer → holding (attempt_view a) ≡ false
+-- an attempt that has ended has no reply of the arbiter
+attempt_ended : (a : AttemptTask) (answer : LineReply) → attempt_to_do a ≡ Returns answer → last_reply (attempt_view a) ≡ None
 attempt_ended (tasks.Transfer t) answer ends = task_ended answers.Transfer t answer ends
 attempt_ended (tasks.Await w) answer ends = task_ended (await_reply w.want.items) w.task answer ends
 attempt_ended (tasks.Shared v) answer ends = current_ended v.current answer ends
 
--- a line that has ended does not hold the bus
-pub line_ended : (task : LineTask) (answer : LineReply) → line_to_do task ≡ Returns answer → holding (line_view task) ≡ false
+-- a line that has ended has no reply of the arbiter
+pub line_ended : (task : LineTask) (answer : LineReply) → line_to_do task ≡ Returns answer → last_reply (line_view task) ≡ None
 line_ended (Refused fault) answer ends = refl
 line_ended (Running a) answer ends = attempt_ended a.attempt answer ends
 
--- a stage after its first call does not hold the bus
-called_idle : (stage : Stage) (job : Result Job CycleFault) → holding (current_view (stage_called stage job)) ≡ false
+-- a stage after its first call has no reply of the arbiter
+called_idle : (stage : Stage) (job : Result Job CycleFault) → last_reply (current_view (stage_called stage job)) ≡ None
 called_idle stage (Ok job) = begun_idle job
 called_idle stage (Err fault) = refl
 
--- what follows a transfer does not hold the bus
-stepped_idle : (s : SharedJob) (step : StageResult) → holding (current_view (current_stepped s step)) ≡ false
+-- what follows a transfer has no reply of the arbiter
+stepped_idle : (s : SharedJob) (step : StageResult) → last_reply (current_view (current_stepped s step)) ≡ None
 stepped_idle s (Continue stage) = called_idle stage (stage_job s stage)
 stepped_idle s (Finish end) = refl
 
@@ -119,13 +119,13 @@ attempt_like (tasks.Transfer t) given = like_same (Some (advance t given))
 attempt_like (tasks.Await w) given = like_same (Some (advance w.task given))
 attempt_like (tasks.Shared v) given = current_after_like v.job v.current given
 
--- the first transfer of a lock or a mailbox does not hold the bus
-first_idle : (s : SharedJob) (stage : Stage) (job : Result Job CycleFault) → holding (view_after None (current_view (stage_fresh stage job))) ≡ false
+-- the first transfer of a lock or a mailbox has no reply of the arbiter
+first_idle : (s : SharedJob) (stage : Stage) (job : Result Job CycleFault) → last_reply (view_after None (current_view (stage_fresh stage job))) ≡ None
 first_idle s stage (Ok job) = begun_idle job
 first_idle s stage (Err fault) = refl
 
--- an attempt that has just begun anew does not hold the bus
-anew_idle : (a : AttemptTask) → holding (view_after None (attempt_view (attempt_anew a))) ≡ false
+-- an attempt that has just begun anew has no reply of the arbiter
+anew_idle : (a : AttemptTask) → last_reply (view_after None (attempt_view (attempt_anew a))) ≡ None
 anew_idle (tasks.Transfer t) = begun_idle t.job
 anew_idle (tasks.Await w) = begun_idle w.task.job
 anew_idle (tasks.Shared v) = first_idle v.job (first_stage v.job.request) (stage_job v.job (first_stage v.job.request))
@@ -138,7 +138,7 @@ again_like a (Returns answer) is =
     elim (cases_Bool (next_wants_retry (Returns answer) && nat_lt 1 a.left)) [
       | inl more ↦
           rw more (like_idle (attempt_view (attempt_advance (attempt_anew a.attempt) None)) (attempt_view a.attempt)
-          ((attempt_like (attempt_anew a.attempt) None).held ∙ anew_idle a.attempt) (attempt_ended a.attempt answer is))
+          ((attempt_like (attempt_anew a.attempt) None).reply ∙ anew_idle a.attempt) (attempt_ended a.attempt answer is))
       | inr last ↦ rw last (like_same (attempt_view a.attempt))
     ]
 
@@ -150,19 +150,19 @@ line_like (Running a) given =
     like_on (line_view (line_advance (Running a) given)) (attempt_view next.attempt) (view_after given (line_view (Running a)))
     (again_like next (attempt_to_do next.attempt) refl) (attempt_like a.attempt given)
 
--- an attempt that has just begun does not hold the bus
-attempt_idle : (attempt : Attempt) → holding (view_after None (attempt_view (attempt_fresh attempt))) ≡ false
+-- an attempt that has just begun has no reply of the arbiter
+attempt_idle : (attempt : Attempt) → last_reply (view_after None (attempt_view (attempt_fresh attempt))) ≡ None
 attempt_idle (Transferring job) = begun_idle job
 attempt_idle (Awaiting job want) = begun_idle job
 attempt_idle (Sharing s) = first_idle s (first_stage s.request) (stage_job s (first_stage s.request))
 
--- a line that has just begun, by its attempt, does not hold the bus
-fresh_idle : (count : ℕ) (attempt : Result Attempt CycleFault) → holding (line_view (line_advance (line_fresh count attempt) None)) ≡ false
-fresh_idle count (Ok attempt) = (line_like (line_fresh count (Ok attempt)) None).held ∙ attempt_idle attempt
+-- a line that has just begun, by its attempt, has no reply of the arbiter
+fresh_idle : (count : ℕ) (attempt : Result Attempt CycleFault) → last_reply (line_view (line_advance (line_fresh count attempt) None)) ≡ None
+fresh_idle count (Ok attempt) = (line_like (line_fresh count (Ok attempt)) None).reply ∙ attempt_idle attempt
 fresh_idle count (Err fault) = refl
 
--- a line that has just begun does not hold the bus
-pub line_idle : (config : Configuration) (board : ℕ) (line : Line) → holding (line_view (line_begun config board line)) ≡ false
+-- a line that has just begun has no reply of the arbiter
+pub line_idle : (config : Configuration) (board : ℕ) (line : Line) → last_reply (line_view (line_begun config board line)) ≡ None
 unfolding line_started
 line_idle config board line = fresh_idle config.tries (line_attempt config board line)
 

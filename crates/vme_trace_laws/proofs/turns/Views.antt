@@ -3,6 +3,8 @@ use Rattle.std.proofs.Common.{◌≡◌, ℕ, ◌==◌, Bool, true, false, not, 
 use Rattle.std.specs.Prelude.{option_map}
 use Rattle.std.proofs.lemmas.Bool.{cases_Bool, false≢true}
 use Rattle.vme_cycle.specs.Lawful.{Transfer}
+use Rattle.vme_arbiter.specs.declared.command.ArbReply.{ArbReply}
+use Rattle.vme_arbiter.specs.declared.command.ArbReply.TheVariants as arb_replies
 use Rattle.vme_core.specs.declared.event.EventReply.{EventReply}
 use Rattle.vme_master.specs.declared.job.BusJob.{BusJob}
 use Rattle.vme_master.specs.declared.job.Job.{Job}
@@ -123,19 +125,54 @@ pub current_none : (v : Option TaskView) → holding v ≡ false → current v �
 current_none None none = refl
 current_none (Some t) none = job_current_none t.job t.phase none
 
--- two processors are alike: both hold the bus or neither, and both are between the same two data or between none
+-- the arbiter's last reply to a transfer in a phase; none before the first, and after the bus is released
+abbrev pub phase_reply : Phase → Option ArbReply
+phase_reply phases.Polling = Some arb_replies.Waiting
+phase_reply (phases.Transferring i) = Some arb_replies.Granted
+phase_reply (phases.Releasing berr) = Some arb_replies.Granted
+phase_reply phase = None
+
+-- the same of a job
+abbrev pub job_reply : Job → Phase → Option ArbReply
+job_reply (Bus job) phase = phase_reply phase
+job_reply (Local job) phase = None
+
+-- the same of a processor
+abbrev pub last_reply : Option TaskView → Option ArbReply
+last_reply None = None
+last_reply (Some t) = job_reply t.job t.phase
+
+-- a job without a reply does not hold the bus
+job_reply_none : (job : Job) (phase : Phase) → job_reply job phase ≡ None → job_holds job phase ≡ false
+job_reply_none (Bus job) (phases.Transferring i) none = absurd (cc none)
+job_reply_none (Bus job) (phases.Releasing berr) none = absurd (cc none)
+job_reply_none (Bus job) phases.New none = refl
+job_reply_none (Bus job) phases.Requesting none = refl
+job_reply_none (Bus job) phases.Polling none = refl
+job_reply_none (Bus job) (phases.Finished berr) none = refl
+job_reply_none (Bus job) phases.Denied none = refl
+job_reply_none (Local job) phase none = refl
+
+-- a processor without a reply does not hold the bus
+reply_none : (v : Option TaskView) → last_reply v ≡ None → holding v ≡ false
+reply_none None none = refl
+reply_none (Some t) none = job_reply_none t.job t.phase none
+
+-- two processors are alike: both hold the bus or neither, both are between the same two data or between none, and the
+-- arbiter's last reply to both is the same
 pub record IsLike (v w : Option TaskView) : Type 0 where
   pub held : holding v ≡ holding w
   pub between : amid v ≡ amid w
   pub datum : current v ≡ current w
+  pub reply : last_reply v ≡ last_reply w
 
 -- a processor is like itself
 pub like_same : (v : Option TaskView) → IsLike v v
-like_same v = record { held = refl; between = refl; datum = refl }
+like_same v = record { held = refl; between = refl; datum = refl; reply = refl }
 
 -- the other way round
 pub like_back : (v w : Option TaskView) → IsLike v w → IsLike w v
-like_back v w like = record { held = sym like.held; between = sym like.between; datum = sym like.datum }
+like_back v w like = record { held = sym like.held; between = sym like.between; datum = sym like.datum; reply = sym like.reply }
 
 -- one after another
 pub like_on : (u v w : Option TaskView) → IsLike u v → IsLike v w → IsLike u w
@@ -143,12 +180,17 @@ like_on u v w first second = record {
   held = first.held ∙ second.held;
   between = first.between ∙ second.between;
   datum = first.datum ∙ second.datum;
+  reply = first.reply ∙ second.reply;
 }
 
--- processors that do not hold the bus are alike
-pub like_idle : (v w : Option TaskView) → holding v ≡ false → holding w ≡ false → IsLike v w
-like_idle v w first second = record {
-  held = first ∙ sym second;
-  between = amid_none v first ∙ sym (amid_none w second);
-  datum = current_none v first ∙ sym (current_none w second);
-}
+-- processors without a reply are alike
+pub like_idle : (v w : Option TaskView) → last_reply v ≡ None → last_reply w ≡ None → IsLike v w
+like_idle v w first second =
+    let one = reply_none v first in
+    let two = reply_none w second in
+    record {
+      held = one ∙ sym two;
+      between = amid_none v one ∙ sym (amid_none w two);
+      datum = current_none v one ∙ sym (current_none w two);
+      reply = first ∙ sym second;
+    }

@@ -34,6 +34,7 @@ use Rattle.vme_trace_laws.proofs.turns.LineViews.{line_like}
 use Rattle.vme_trace_laws.proofs.turns.Data.{IsDue, given_due}
 use Rattle.vme_trace_laws.proofs.turns.Handshakes.{ended_by}
 use Rattle.vme_trace_laws.proofs.turns.Requested.{IsAtDatum}
+use Rattle.vme_trace_laws.proofs.turns.Fits.{IsFit, fit_like, line_fits}
 use Rattle.vme_trace_laws.proofs.turns.Moves.{IsMove, move_like, line_moves}
 use Rattle.vme_trace_laws.proofs.turns.Goes.{view_in, view_by, view_with, lines_go}
 
@@ -62,6 +63,7 @@ module _ (config : Configuration) where
     IsStep (Some o) after v w =
         (o.board ≡ board) × IsMove (slot_at config board) v w machine.bus.object after.bus.object o.activity o.reply
         × (step : IsStepShown config machine o after) × IsAtDatum config o.activity step.call step.datum (has_ended o) v w
+        × IsFit (slot_at config board) (level_at config board) v w machine.bus.object after.bus.object o.reply
 
     -- the next step of a task
     step_by : (number : ℕ) (task : LineTask) (line : Line) (given : Inputs) (next : NextStep LineReply) (v w : Option TaskView)
@@ -80,6 +82,8 @@ module _ (config : Configuration) where
               (line_moves machine board board (slot_at config board) (level_at config board) task call own due is),
           call_shown config board machine number task line given call there given_is is shows.0,
           datum_like config (activity_of task call) call shows.0 (ended_by (activity_of task call) made.1) (line_view task) v next w before like shows.1,
+          fit_like (slot_at config board) (level_at config board) (line_view task) v next w machine.bus.object made.0.bus.object made.1 before like
+              (line_fits machine board board (slot_at config board) (level_at config board) task call own due is),
         )
 
     -- the next step of the current line, if there is one
