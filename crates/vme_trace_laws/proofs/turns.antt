@@ -3,6 +3,7 @@ pub mod Views
 pub mod LineViews
 pub mod Jobs
 pub mod Requested
+pub mod ShownData
 pub mod Turns
 pub mod Runs
 pub mod Counts
@@ -27,4 +28,5 @@ pub mod AddressStrobes
 pub mod AddressLines
 pub mod RunStrobes
 pub mod BusStrobes
+pub mod PendingRequests
 pub mod Granted

@@ -12,7 +12,7 @@ use Rattle.vme_trace.specs.declared.observation.activity.Activity.{Activity}
 use Rattle.vme_trace.specs.declared.observation.activity.Activity.TheVariants.{Requests, Polls, Releases, Transfers, Local, Other}
 use Rattle.vme_trace_laws.specs.Transfers.{OpenTransfer, open_at}
 use Rattle.vme_trace_laws.specs.Commands.{IsTransferShown, GoesOn}
-use Rattle.vme_trace_laws.proofs.turns.Requested.{IsAtDatum}
+use Rattle.vme_trace_laws.proofs.turns.ShownData.{IsAtDatum}
 use Rattle.vme_trace_laws.proofs.turns.Tenures.{IsTenure, alone}
 use Rattle.vme_trace_laws.proofs.turns.Views.{holding, current, current_none}
 

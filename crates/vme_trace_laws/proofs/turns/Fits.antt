@@ -41,7 +41,7 @@ use Rattle.vme_trace_laws.proofs.turns.Data.{IsDuePhase, IsDueJob, IsDue}
 use Rattle.vme_trace_laws.proofs.turns.Jobs.{IsOwnJob, IsOwnTask, IsOwnView, own_view}
 use Rattle.vme_trace_laws.proofs.turns.LineViews.{line_makes}
 use Rattle.vme_trace_laws.proofs.turns.Phases.{task_of}
-use Rattle.vme_trace_laws.proofs.turns.Requested.{own_call}
+use Rattle.vme_trace_laws.proofs.turns.ShownData.{own_call}
 use Rattle.vme_trace_laws.proofs.turns.Views.{line_view, view_after, phase_reply, last_reply, IsLike}
 
 -- a call of a processor's slot, by the arbiter's last reply to it before and after

@@ -42,7 +42,7 @@ use Rattle.vme_trace.specs.declared.dump.handshake.Handshake.{Handshake}
 use Rattle.vme_trace.specs.Handshakes.{first_handshake}
 use Rattle.vme_trace.specs.Slots.{releases}
 use Rattle.vme_trace_laws.proofs.turns.Busy.{board_bus}
-use Rattle.vme_trace_laws.proofs.turns.Requested.{own_call}
+use Rattle.vme_trace_laws.proofs.turns.ShownData.{own_call}
 use Rattle.vme_trace_laws.proofs.turns.Jobs.{IsOwnJob, IsOwnTask, IsOwnView, own_view}
 use Rattle.vme_trace_laws.proofs.turns.Views.{holding, amid, line_view, view_after, IsLike}
 use Rattle.vme_trace_laws.proofs.turns.LineViews.{line_makes, line_datum_of}

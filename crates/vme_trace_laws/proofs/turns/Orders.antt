@@ -31,7 +31,7 @@ use Rattle.vme_trace_laws.proofs.turns.Elements.{get_map}
 use Rattle.vme_trace_laws.proofs.turns.Turns.{processors_get}
 use Rattle.vme_trace_laws.proofs.turns.Runs.{place_below}
 use Rattle.vme_trace_laws.proofs.turns.Views.{holding, amid, current, last_reply, IsLike, like_same}
-use Rattle.vme_trace_laws.proofs.turns.Requested.{IsAtDatum}
+use Rattle.vme_trace_laws.proofs.turns.ShownData.{IsAtDatum}
 use Rattle.vme_trace_laws.proofs.turns.Currents.{current_in, open_next, goes_on, own_placed, other_placed}
 use Rattle.vme_trace_laws.proofs.turns.Fits.{IsFit}
 use Rattle.vme_trace_laws.proofs.turns.ArbiterStates.{step_orderly, slot_ok, level_ok}

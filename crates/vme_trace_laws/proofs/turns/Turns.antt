@@ -51,7 +51,8 @@ use Rattle.vme_trace_laws.specs.Steps.{IsShownAs, IsStepShown}
 use Rattle.vme_trace_laws.proofs.turns.Data.{IsDue, given_due}
 use Rattle.vme_trace_laws.proofs.turns.Elements.{get_set}
 use Rattle.vme_trace_laws.proofs.turns.Jobs.{IsOwnTransfer, IsOwnJob, IsOwnCurrent, IsOwnAttempt, IsOwnTask, given_own}
-use Rattle.vme_trace_laws.proofs.turns.Requested.{IsRequestedTask, given_requested, ShowsAt, line_shows, own_call}
+use Rattle.vme_trace_laws.proofs.turns.Requested.{IsRequestedTask, given_requested}
+use Rattle.vme_trace_laws.proofs.turns.ShownData.{ShowsAt, line_shows, own_call}
 use Rattle.vme_trace_laws.proofs.turns.Views.{line_view, view_after}
 
 module _ (board slot level : ℕ) where

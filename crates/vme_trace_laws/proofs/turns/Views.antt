@@ -99,12 +99,12 @@ abbrev pub phase_current : BusJob → Phase → Option (Transfer × ℕ)
 phase_current job (phases.Transferring i) = if i == 0 then None else Some (job.transfer, i)
 phase_current job phase = None
 
--- the same of a job
+-- that of a job
 abbrev pub job_current : Job → Phase → Option (Transfer × ℕ)
 job_current (Bus job) phase = phase_current job phase
 job_current (Local job) phase = None
 
--- the same of a processor
+-- that of a processor
 abbrev pub current : Option TaskView → Option (Transfer × ℕ)
 current None = None
 current (Some t) = job_current t.job t.phase
@@ -132,12 +132,12 @@ phase_reply (phases.Transferring i) = Some arb_replies.Granted
 phase_reply (phases.Releasing berr) = Some arb_replies.Granted
 phase_reply phase = None
 
--- the same of a job
+-- that of a job
 abbrev pub job_reply : Job → Phase → Option ArbReply
 job_reply (Bus job) phase = phase_reply phase
 job_reply (Local job) phase = None
 
--- the same of a processor
+-- that of a processor
 abbrev pub last_reply : Option TaskView → Option ArbReply
 last_reply None = None
 last_reply (Some t) = job_reply t.job t.phase

@@ -33,7 +33,7 @@ use Rattle.vme_trace_laws.proofs.turns.Views.{line_view, view_after, IsLike, lik
 use Rattle.vme_trace_laws.proofs.turns.LineViews.{line_like}
 use Rattle.vme_trace_laws.proofs.turns.Data.{IsDue, given_due}
 use Rattle.vme_trace_laws.proofs.turns.Handshakes.{ended_by}
-use Rattle.vme_trace_laws.proofs.turns.Requested.{IsAtDatum}
+use Rattle.vme_trace_laws.proofs.turns.ShownData.{IsAtDatum}
 use Rattle.vme_trace_laws.proofs.turns.Fits.{IsFit, fit_like, line_fits}
 use Rattle.vme_trace_laws.proofs.turns.Moves.{IsMove, move_like, line_moves}
 use Rattle.vme_trace_laws.proofs.turns.Goes.{view_in, view_by, view_with, lines_go}

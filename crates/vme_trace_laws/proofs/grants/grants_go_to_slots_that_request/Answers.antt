@@ -1,4 +1,5 @@
-use Rattle.vme_trace_laws.proofs.turns.Granted.{request_after_run, slot_granted, request_granted, busy_granted}
+use Rattle.vme_trace_laws.proofs.turns.PendingRequests.{request_after_run}
+use Rattle.vme_trace_laws.proofs.turns.Granted.{slot_granted, request_granted, busy_granted}
 use Rattle.vme_trace_laws.proofs.grants.grants_go_to_slots_that_request.Goals as goal
 
 pub returns-clause-slot : goal.returns-clause-slot
