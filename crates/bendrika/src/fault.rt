@@ -37,7 +37,12 @@ pub(crate) fn fault_of(error: &io::Error) -> Fault {
 
 /// Prints a text on standard output.
 pub(crate) fn printed(rt: &HostRuntime, text: &str) -> Result<(), Fault> {
+    printed_bytes(rt, text.as_bytes())
+}
+
+/// Prints bytes on standard output.
+pub(crate) fn printed_bytes(rt: &HostRuntime, bytes: &[u8]) -> Result<(), Fault> {
     let mut writer = Io::new(io::writer(rt));
-    write_all(&mut writer, text.as_bytes())?;
+    write_all(&mut writer, bytes)?;
     Ok(())
 }

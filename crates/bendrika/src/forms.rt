@@ -52,7 +52,7 @@ pub(crate) struct Form {
     pub(crate) words: &'static [Word],
 }
 
-/// The configuration file of `outcomes`, `page` and `trace`.
+/// The configuration file of `outcomes`, `page`, `split` and `trace`.
 const FILE: Word = Word {
     name: "FILE",
     value: "FILE",
@@ -171,6 +171,29 @@ static EXPLAIN: [Word; 3] = [
     JSON,
 ];
 
+/// The words of `bendrika split`.
+static SPLIT: [Word; 4] = [
+    FILE,
+    Word {
+        name: "local-width",
+        value: "BITS",
+        kind: Kind::Text,
+        help: "Split the accesses of local ports for processors that move 8, 16 or 32 bits at once",
+    },
+    Word {
+        name: "wide",
+        value: "",
+        kind: Kind::Flag,
+        help: "Split the data of eight-byte blocks into two of four bytes",
+    },
+    Word {
+        name: "slot",
+        value: "N",
+        kind: Kind::Text,
+        help: "Split the script of slot N alone",
+    },
+];
+
 /// The words of `bendrika serve`.
 static SERVE: [Word; 1] = [Word {
     name: "FILE",
@@ -253,7 +276,7 @@ spaces, a line has at most 80 bytes, and a comment is a line that begins with #.
 ";
 
 /// Returns the subcommands, in the order in which the help lists them.
-pub(crate) fn forms() -> [Form; 8] {
+pub(crate) fn forms() -> [Form; 9] {
     [
         Form {
             name: "check",
@@ -284,6 +307,12 @@ pub(crate) fn forms() -> [Form; 8] {
             about: "List every outcome that some order of turns gives, each with a schedule",
             end: "Status: 0 listed, 1 a condition fails, 2 wrong words or no configuration, 3 a fault, 4 too many states",
             words: OUTCOMES.as_slice(),
+        },
+        Form {
+            name: "split",
+            about: "Print a file with the accesses that a narrower processor makes, as lines of their own",
+            end: "Status: 0 printed, 2 wrong words or no configuration, 3 a fault",
+            words: SPLIT.as_slice(),
         },
         Form {
             name: "trace",

@@ -4,9 +4,10 @@
 //! cycles` those of request lines, `bendrika explain` prints what a code or a reply of `vme` means,
 //! `bendrika serve` answers lines one by one, `bendrika outcomes` lists every outcome of a file,
 //! `bendrika trace` writes the waveforms of its run, `bendrika page` a page with its timing diagrams,
-//! and `bendrika lines` shows the syntax of lines. The exit status is 0; 1 after errors in an input
-//! or if a condition fails; 2 for wrong words, or a file of `outcomes`, `page` or `trace` that is no
-//! configuration; 3 after a fault; 4 if there are more states than the limit.
+//! `bendrika split` a file with the accesses of a narrower processor, and `bendrika lines` shows the
+//! syntax of lines. The exit status is 0; 1 after errors in an input or if a condition fails; 2 for
+//! wrong words, or a file of `outcomes`, `page`, `split` or `trace` that is no configuration; 3 after
+//! a fault; 4 if there are more states than the limit.
 #![tactic(auto)]
 
 mod check;
@@ -19,6 +20,7 @@ mod outcomes;
 mod outcomes_json;
 mod page;
 mod serve;
+mod split;
 mod status;
 mod trace;
 mod words;
@@ -30,6 +32,7 @@ use crate::forms::LINES;
 use crate::outcomes::listed;
 use crate::page::paged;
 use crate::serve::served;
+use crate::split::split;
 use crate::status::Status;
 use crate::trace::traced;
 use crate::words::program;
@@ -69,6 +72,7 @@ fn run(rt: &HostRuntime) -> Result<Status, Fault> {
             Some(("outcomes", words)) => listed(rt, words),
             Some(("page", words)) => paged(rt, words),
             Some(("serve", words)) => served(rt, words),
+            Some(("split", words)) => split(rt, words),
             Some(("trace", words)) => traced(rt, words),
             Some(("lines", _)) => lines_shown(rt),
             _ => Ok(Status::WrongWords),

@@ -7,7 +7,8 @@ pub(crate) enum Status {
     Done,
     /// An input has an error, or a condition on the outcomes fails.
     Errors,
-    /// The words are wrong, or the file of `outcomes`, `page` or `trace` is no configuration.
+    /// The words are wrong, or the file of `outcomes`, `page`, `split` or `trace` is no
+    /// configuration.
     WrongWords,
     /// An input or a device failed, or an allocation.
     Fault,
