@@ -1,5 +1,6 @@
 """Icarus Verilog and GHDL as the checks of hdl/ use them: a bench is built in a folder of its own, and run."""
 
+import re
 import shutil
 from pathlib import Path
 
@@ -24,15 +25,16 @@ class Verilog:
 
     @staticmethod
     def with_parameters(text: str, parameters: dict[str, int]) -> str:
-        """The sample slave with these parameters."""
+        """A slave of hdl/sample with these parameters."""
         shown = ", ".join(f".{name}({value})" for name, value in parameters.items())
-        return text.replace(".WIDTH(32)", shown) if shown else text
+        return re.sub(r"(?m)^(`define CLASS) .*$", rf"\1 {shown}", text)
 
     @staticmethod
-    def build(folder: Path, top: str, *sources: Path) -> Path:
-        """A bench over the models of hdl/verilog."""
+    def build(folder: Path, top: str, *sources: Path, **parameters: int) -> Path:
+        """A bench over the models of hdl/verilog, with these parameters."""
         program = folder / f"{top}.vvp"
-        must("iverilog", "-g2005", "-Wall", "-s", top, "-o", program, *sources, *Verilog.models)
+        set_ = [f"-P{top}.{name}={value}" for name, value in parameters.items()]
+        must("iverilog", "-g2005", "-Wall", *set_, "-s", top, "-o", program, *sources, *Verilog.models)
         return program
 
     @staticmethod
@@ -50,7 +52,7 @@ class Vhdl:
 
     @staticmethod
     def with_parameters(text: str, parameters: dict[str, int]) -> str:
-        """The sample slave with these generics."""
+        """A slave of hdl/sample with these generics."""
         for name, value in parameters.items():
             for kind in ("positive", "natural", "boolean"):
                 start = f"{name} : {kind} := "
@@ -64,6 +66,7 @@ class Vhdl:
     def build(folder: Path, top: str, *sources: Path) -> list:
         """A bench over the models of hdl/vhdl; returns the words that run it."""
         flags = ["--std=08", f"--workdir={folder}"]
+        must("ghdl", "-a", "--std=93", f"--workdir={folder}", *Vhdl.models)
         must("ghdl", "-a", *flags, *Vhdl.models, *sources)
         must("ghdl", "-e", *flags, top)
         return ["-r", *flags, top]

@@ -1,0 +1,153 @@
+"""The benches of hdl/ for arbiters, requesters, bus timers and masters, as checks/hdl runs them."""
+
+import re
+import shutil
+import sys
+from pathlib import Path
+
+from harness import ROOT, expect, fail, output, path_of, run
+from simulators import HDL, Verilog, must
+
+sys.path.insert(0, str(ROOT / "scripts"))
+from edits import Edit, edited, read_edit  # noqa: E402
+
+KINDS = ["pri", "rrs", "sgl"]
+VERDICT = re.compile(r"^(\d+) passed, (\d+) failed$", re.MULTILINE)
+COMMANDS, REQUESTS = 300, 3000
+# By the file that an edit changes: the bench, and the parameters with which it takes the design.
+BENCHES = {
+    "arbiter": ("arbitration", {"ARBITER": 1}),
+    "requester": ("arbitration", {"ARBITER": 0, "REQUESTERS": 1}),
+    "timer": ("timer", {}),
+}
+
+
+def is_right(ended) -> bool:
+    """Whether a bench has come to its verdict, and everything passed."""
+    found = VERDICT.findall(ended.written)
+    return bool(found) and int(found[-1][0]) > 0 and found[-1][1] == "0" and ended.status == 0
+
+
+def is_found(ended) -> bool:
+    """Whether a bench has come to its verdict, and something failed with its time."""
+    found = VERDICT.findall(ended.written)
+    return bool(found) and found[-1][1] != "0" and ended.status == 1 and re.search(r"^\d+ ns: ", ended.written, re.MULTILINE) is not None
+
+
+def arbiter_vectors(folder: Path) -> dict[str, Path]:
+    paths = {}
+    for kind in KINDS:
+        paths[kind] = folder / f"{kind}.vectors"
+        paths[kind].write_text(output(HDL / "arbiter_vectors", kind, str(COMMANDS)), encoding="ascii")
+    return paths
+
+
+def bench_of(folder: Path, name: str, text: str | None, kind: str):
+    """The bench of an arbiter, a requester or a timer over a source, or over the models alone."""
+    bench, parameters = BENCHES[name]
+    parameters = {**parameters, "KIND": KINDS.index(kind)} if bench == "arbitration" else parameters
+    sources = [HDL / f"verilog/vme_{bench}_bench.v"]
+    if text is None:
+        parameters = {**parameters, "ARBITER": 0, "REQUESTERS": 0}
+    else:
+        sources.append(folder / f"{name}.v")
+        sources[-1].write_text(text.replace("`define KIND 0", f"`define KIND {KINDS.index(kind)}"), encoding="utf-8")
+    return Verilog.build(folder, f"vme_{bench}_bench", *sources, **parameters)
+
+
+def right_designs(folder: Path) -> str:
+    """The samples and the models are right. Returns what was compared."""
+    vectors = arbiter_vectors(folder)
+    runs = [(name, kind, text) for name in ("arbiter", "requester") for kind in KINDS for text in (True, False) if name == "arbiter" or text]
+    for name, kind, is_sample in runs:
+        text = (HDL / f"sample/{name}.v").read_text(encoding="utf-8") if is_sample else None
+        ended = Verilog.run(bench_of(folder, name, text, kind), vectors=vectors[kind])
+        expect(is_right(ended) and f"{COMMANDS} passed" in ended.written, f"the {name} of the kind {kind}: {ended}")
+    model = ("`timescale 1ns / 1ps\nmodule timer (input sysclk, sysreset_n, input [1:0] ds_n, input dtack_n, inout berr_n);\n"
+             "    wire fired;\n    vme_timer timer (ds_n, dtack_n, berr_n, fired);\nendmodule\n")
+    for text in ((HDL / "sample/timer.v").read_text(encoding="utf-8"), model):
+        ended = Verilog.run(bench_of(folder, "timer", text, "pri"))
+        expect(is_right(ended), f"the timer: {ended}")
+    whole = vectors["pri"].read_text(encoding="ascii")
+    damaged = {"empty": "", "cut": whole[:300], "cut in its last line": whole[:-3], "of another format": whole.replace("\n01 ", "\n02 ", 1)}
+    bench = bench_of(folder, "arbiter", None, "pri")
+    for what, text in damaged.items():
+        (folder / "damaged").write_text(text, encoding="ascii")
+        ended = Verilog.run(bench, vectors=folder / "damaged")
+        expect(ended.status == 1 and "0 passed, 1 failed" in ended.written, f"arbiter vectors {what}: {ended}")
+    return f"arbiters of {len(KINDS)} kinds, requesters and bus timers"
+
+
+def wrong_design(folder: Path, path: Path, edit: Edit) -> None:
+    """The bench finds an error of an arbiter, a requester or a timer."""
+    name, kind = Path(edit.changes[0].file).stem, edit.fields.get("vectors", "pri")
+    ended = Verilog.run(bench_of(folder, name, edited(edit, HDL)[HDL / edit.changes[0].file], kind),
+                        vectors=arbiter_vectors(folder)[kind], first=True)
+    expect(is_found(ended), f"{path.name} is not found: {ended}")
+
+
+def compare(language, log: Path, wanted: list[str]) -> None:
+    """Notes a fault unless the lines of signals of a bus log are these."""
+    found = re.findall(r"^\d+ n=\d+ (am=.*) (?:dtack|berr)", log.read_text(encoding="ascii"), re.MULTILINE)
+    differ = next((pair for pair in zip(found, wanted) if pair[0] != pair[1]), None)
+    expect(not differ and len(found) == len(wanted) > 0, f"the master in {language.name}: {differ or (len(found), len(wanted))}")
+
+
+def masters(folder: Path, languages) -> str:
+    """The masters make generated requests over a board as that of `vme cycles`, and their bus logs have its lines of signals."""
+    vme, kept, numbers = path_of("vme"), folder / "kept", folder / "numbers"
+    given = "\n".join(output(sys.executable, ROOT / "bench/generate.py", "mixed").splitlines()[:REQUESTS])
+    numbers.write_text(output(HDL / "requests", kept, vme, given=given), encoding="ascii")
+    count = len(kept.read_text(encoding="ascii").splitlines())
+    wanted = [it for it in run(vme, "cycles", given=kept.read_bytes()).written.splitlines() if it.startswith("am=")]
+    (folder / "cut").write_text(numbers.read_text(encoding="ascii")[:400], encoding="ascii")
+    (folder / "empty").write_text("", encoding="ascii")
+    for language in languages:
+        own = folder / language.suffix
+        own.mkdir()
+        bench = language.build(own, "master_bench", HDL / f"sample/master_bench.{language.suffix}")
+        ended = language.run(bench, requests=numbers, log=own / "log")
+        expect(ended.status == 0 and f"{count} requests" in ended.written, f"the master in {language.name}: {ended}")
+        compare(language, own / "log", wanted)
+        for name in ("cut", "empty", "absent"):
+            ended = language.run(bench, requests=folder / name, log=own / "log")
+            expect(ended.status == 1 and "hdl/requests writes them" in ended.written, f"{name} requests in {language.name}: {ended}")
+    return f"{count} requests of the masters with {len(wanted)} lines as by vme cycles"
+
+
+def three_masters(folder: Path) -> str:
+    """Three masters on one backplane, whose bus log is that of `vme step` with the same order of tenures."""
+    log = folder / "bus.log"
+    must("vvp", "-N", Verilog.build(folder, "bus_bench", HDL / "sample/bus_bench.v"), f"+log={log}")
+    lines = log.read_text(encoding="ascii").splitlines()
+    (folder / "bus.toml").write_text(output(HDL / "schedule", log, HDL / "sample/bus.toml"), encoding="ascii")
+    report = run(path_of("vme"), "step", folder / "bus.toml").written.splitlines()
+    shown = [it.split() for it in lines if " n=" in it and " write=1 " in it]
+    for slot in (1, 2):
+        found = [it[9].removeprefix("data=") for it in shown if it[11] == f"slot={slot}"]
+        wanted = [it.split()[2] for it in report if re.match(rf"{slot}:\d+ old ", it)]
+        expect(found == wanted and len(found) == 4, f"three masters: slot {slot} reads {found}, and `vme step` {wanted}")
+    errors = [it for it in lines if " berr slot=3" in it or it.endswith("bus timer")]
+    wanted = [it for it in report if re.match(r"3:\d+ berr", it)]
+    expect(len(errors) == 4 and wanted == ["3:2 berr 2 0000000000000000", "3:3 berr 0", "3:4 berr 0"], f"three masters: {errors} and {wanted}")
+    return f"{sum(' n=' in it for it in lines)} data of three masters as by vme step"
+
+
+def lints() -> str:
+    """The sample designs have no warning of Verilator; one of a clock of their own is not theirs."""
+    if not shutil.which("verilator"):
+        return ""
+    for name, top in (("slave", "slave"), ("arbiter", "arbiter"), ("timer", "timer")):
+        ended = run("verilator", "--lint-only", "-Wall", "-Wno-DECLFILENAME", "--top-module", top, HDL / f"sample/{name}.v")
+        expect(ended.status == 0, f"{name}.v: {ended.told}")
+    return "3 designs without a warning of Verilator"
+
+
+def read(path: Path) -> Edit:
+    """An edit of hdl/wrong that applies."""
+    edit = read_edit(path)
+    try:
+        edited(edit, HDL)
+    except ValueError as fault:
+        fail(f"{path.name}: {fault}")
+    return edit
