@@ -1,0 +1,95 @@
+"""libvme beside a design, as checks/hdl runs it: the shadow by VPI, DPI-C, VHPIDIRECT, Verilator, and `bendrika serve` over pipes."""
+
+import os
+import re
+import shutil
+import subprocess
+from pathlib import Path
+
+from bus_benches import is_right
+from harness import ROOT, expect, path_of, run
+from simulators import HDL, Verilog, Vhdl, must
+
+COSIM, INCLUDE = HDL / "cosim", ROOT / "include"
+C = ["-std=c11", "-O2", "-Wall", "-Wextra", "-Wpedantic", "-fPIC", f"-I{INCLUDE}"]
+# What the benches of the three interfaces print.
+CALLS = ["write at 4: 0, 4 bytes", "read at 5: 0, 00020300 on lanes 0110", "no board: -1", "past the end: 32"]
+REQUESTS = "20000"
+
+
+def says_calls(what: str, ended) -> None:
+    expect(ended.status == 0 and ended.written.splitlines()[: len(CALLS)] == CALLS, f"{what}: {ended}")
+
+
+def shadow(folder: Path, vectors: Path) -> str:
+    """The shadow agrees with the sample slave, and finds a planted error, in Icarus Verilog by VPI."""
+    flags = must("iverilog-vpi", "--cflags").written.split()
+    objects = []
+    for name in ("vme_sim", "vme_vpi"):
+        objects.append(folder / f"{name}.o")
+        must("cc", *C, *flags, "-c", COSIM / f"{name}.c", "-o", objects[-1])
+    must("cc", "-shared", "-o", folder / "vme_vpi.vpi", *objects, path_of("libvme.a"))
+    right = (HDL / "sample/slave.v").read_text(encoding="utf-8")
+    wrong = right.replace("{1'b0, !byte_place[0]} : 2'd3 - byte_place", "{1'b0, !byte_place[0]} : byte_place")
+    counts = []
+    for text in (right, wrong):
+        (folder / "slave.v").write_text(text, encoding="utf-8")
+        program, sources = folder / "shadow.vvp", [HDL / "sample/shadow_bench.v", COSIM / "vme_shadow.v", HDL / "verilog/vme_slave_bench.v"]
+        must("iverilog", "-g2005", "-Wall", f"-L{folder}", "-mvme_vpi", "-s", "shadow_bench", "-o", program, folder / "slave.v", *sources, *Verilog.models)
+        ended = run("vvp", "-N", f"-M{folder}", "-mvme_vpi", program, f"+vectors={vectors}")
+        counts.append([int(it) for it in re.findall(r"^shadow: (\d+) transfers, (\d+) differences$", ended.written, re.MULTILINE)[0]])
+    expect(counts[0][0] > 1000 and counts[0][1] == 0 and counts[1][1] > 0, f"the shadow counts {counts}")
+    return f"{counts[0][0]} transfers with the shadow"
+
+
+def vhpidirect(folder: Path) -> str:
+    """The functions of vme_sim.h by VHPIDIRECT, in GHDL, which looks for the library already when it analyses."""
+    must("cc", *C, "-shared", "-o", folder / "libvme_sim.so", COSIM / "vme_sim.c", path_of("libvme.a"))
+    how = {"env": {**os.environ, "LD_LIBRARY_PATH": str(folder)}}
+    flags = ["--std=08", f"--workdir={folder}"]
+    must("ghdl", "-a", *flags, HDL / "vhdl/vme_text.vhd", COSIM / "vme_sim.vhd", HDL / "sample/vhpi_bench.vhd", **how)
+    must("ghdl", "-e", *flags, "vhpi_bench", **how)
+    says_calls("VHPIDIRECT", run("ghdl", "-r", *flags, "vhpi_bench", **how))
+    return "VHPIDIRECT"
+
+
+def verilator(folder: Path) -> str:
+    """The functions by DPI-C, and the sample slave beside a board of libvme, both in Verilator."""
+    link = ["-CFLAGS", f"-I{INCLUDE}", "-LDFLAGS", path_of("libvme.a")]
+    sources = [COSIM / "vme_dpi.sv", HDL / "sample/dpi_bench.sv", COSIM / "vme_sim.c"]
+    built = run("verilator", "--binary", "--top-module", "dpi_bench", "-Mdir", folder / "dpi", *link, *sources, "-o", "bench")
+    expect(built.status == 0, f"DPI-C: {built.told}")
+    says_calls("DPI-C", run(folder / "dpi/bench"))
+    sources = [HDL / "sample/slave.v", COSIM / "verilator_bench.cpp"]
+    built = run("verilator", "--cc", "--exe", "--build", "--top-module", "slave", "-Mdir", folder / "slave", *link, *sources, "-o", "bench")
+    expect(built.status == 0, f"Verilator: {built.told}")
+    ended = run(folder / "slave/bench", REQUESTS)
+    expect(is_right(ended), f"Verilator: {ended}")
+    return f"{ended.written.split()[0]} requests in Verilator, DPI-C"
+
+
+def pipes(language, folder: Path) -> str:
+    """A bench asks `bendrika serve` over two named pipes."""
+    bench = language.build(folder, "serve", HDL / f"sample/serve.{language.suffix}")
+    for name in ("to", "from"):
+        os.mkfifo(folder / name)
+    words = ["bash", "-c", 'exec "$0" serve "$1" <to >from', path_of("bendrika"), HDL / "sample/serve.toml"]
+    words = [str(it) for it in words]
+    with subprocess.Popen(words, cwd=folder) as server:
+        program = ["vvp", "-N", bench] if language is Verilog else ["ghdl", *bench]
+        ended = run(*program, cwd=folder)
+        server.wait(timeout=60)
+    expect(is_right(ended) and "1000 passed" in ended.written, f"bendrika serve in {language.name}: {ended}")
+    return f"pipes in {language.name}"
+
+
+def parts(languages, vectors: Path, is_quick: bool = False) -> list:
+    """What the installed tools allow: functions that take a folder. Programs of Verilator take long to build."""
+    found = [lambda folder, it=it: pipes(it, folder) for it in languages]
+    if Verilog in languages and shutil.which("iverilog-vpi"):
+        found.append(lambda folder: shadow(folder, vectors))
+    if Vhdl in languages:
+        found.append(vhpidirect)
+    if shutil.which("verilator") and not is_quick:
+        found.append(verilator)
+    return found
