@@ -1,5 +1,6 @@
 """The benches of hdl/ for arbiters, requesters, bus timers and masters, as checks/hdl runs them."""
 
+import os
 import re
 import shutil
 import sys
@@ -14,11 +15,24 @@ from edits import Edit, edited, read_edit  # noqa: E402
 KINDS = ["pri", "rrs", "sgl"]
 VERDICT = re.compile(r"^(\d+) passed, (\d+) failed$", re.MULTILINE)
 COMMANDS, REQUESTS = 300, 3000
-# By the file that an edit changes: the bench, and the parameters with which it takes the design.
-BENCHES = {
-    "arbiter": ("arbitration", {"ARBITER": 1}),
-    "requester": ("arbitration", {"ARBITER": 0, "REQUESTERS": 1}),
-    "timer": ("timer", {}),
+# The bus timer's model with the ports of a user's timer.
+TIMERS = {
+    "v": """`timescale 1ns / 1ps
+module timer (input sysclk, sysreset_n, input [1:0] ds_n, input dtack_n, inout berr_n);
+    wire fired;
+    vme_timer timer (ds_n, dtack_n, berr_n, fired);
+endmodule
+""",
+    "vhd": """library ieee;
+use ieee.std_logic_1164.all;
+entity timer is
+    port (sysclk, sysreset_n : in std_logic; ds_n : in std_logic_vector(1 downto 0); dtack_n : in std_logic; berr_n : inout std_logic);
+end entity;
+architecture model of timer is
+begin
+    watch : entity work.vme_timer port map (ds_n, dtack_n, berr_n, open);
+end architecture;
+""",
 }
 
 
@@ -42,48 +56,67 @@ def arbiter_vectors(folder: Path) -> dict[str, Path]:
     return paths
 
 
-def bench_of(folder: Path, name: str, text: str | None, kind: str):
-    """The bench of an arbiter, a requester or a timer over a source, or over the models alone."""
-    bench, parameters = BENCHES[name]
-    parameters = {**parameters, "KIND": KINDS.index(kind)} if bench == "arbitration" else parameters
-    sources = [HDL / f"verilog/vme_{bench}_bench.v"]
-    if text is None:
-        parameters = {**parameters, "ARBITER": 0, "REQUESTERS": 0}
-    else:
-        sources.append(folder / f"{name}.v")
-        sources[-1].write_text(text.replace("`define KIND 0", f"`define KIND {KINDS.index(kind)}"), encoding="utf-8")
-    return Verilog.build(folder, f"vme_{bench}_bench", *sources, **parameters)
+def sample_of(language, name: str) -> str:
+    return (HDL / f"sample/{name}.{language.suffix}").read_text(encoding="utf-8")
 
 
-def right_designs(folder: Path) -> str:
-    """The samples and the models are right. Returns what was compared."""
+def run_arbitration(language, folder: Path, vectors: Path, kind: str, is_first: bool = False, **texts: str):
+    """Runs the bench of arbitration over an arbiter or requesters of these texts, and over models for what has no text."""
+    sources = []
+    for name in ("arbiter", "requester"):
+        text = texts.get(name, sample_of(language, name))
+        number = KINDS.index(kind)
+        text = text.replace("`define KIND 0", f"`define KIND {number}").replace("arbiter_kind := PRI", f"arbiter_kind := {kind.upper()}")
+        sources.append(folder / f"{name}.{language.suffix}")
+        sources[-1].write_text(text, encoding="utf-8")
+    sources.append(HDL / f"{language.name.lower()}/vme_arbitration_bench.{language.suffix}")
+    how = {"first": True} if is_first else {}
+    if language is Verilog:
+        own = {"ARBITER": int("arbiter" in texts), "REQUESTERS": int("requester" in texts), "KIND": KINDS.index(kind)}
+        return language.run(language.build(folder, "vme_arbitration_bench", *sources, **own), vectors=vectors, **how)
+    own = {"own_arbiter": str("arbiter" in texts).lower(), "own_requesters": str("requester" in texts).lower(), "kind": kind}
+    return language.run(language.build(folder, "vme_arbitration_bench", *sources), vectors=vectors, **own, **how)
+
+
+def run_timer(language, folder: Path, text: str):
+    """Runs the bench of a bus timer over a text."""
+    source = folder / f"timer.{language.suffix}"
+    source.write_text(text, encoding="utf-8")
+    bench = HDL / f"{language.name.lower()}/vme_timer_bench.{language.suffix}"
+    return language.run(language.build(folder, "vme_timer_bench", source, bench))
+
+
+def right_designs(language, folder: Path) -> str:
+    """The samples and the models are right, and damaged vectors are rejected. Returns what was compared."""
     vectors = arbiter_vectors(folder)
-    runs = [(name, kind, text) for name in ("arbiter", "requester") for kind in KINDS for text in (True, False) if name == "arbiter" or text]
-    for name, kind, is_sample in runs:
-        text = (HDL / f"sample/{name}.v").read_text(encoding="utf-8") if is_sample else None
-        ended = Verilog.run(bench_of(folder, name, text, kind), vectors=vectors[kind])
-        expect(is_right(ended) and f"{COMMANDS} passed" in ended.written, f"the {name} of the kind {kind}: {ended}")
-    model = ("`timescale 1ns / 1ps\nmodule timer (input sysclk, sysreset_n, input [1:0] ds_n, input dtack_n, inout berr_n);\n"
-             "    wire fired;\n    vme_timer timer (ds_n, dtack_n, berr_n, fired);\nendmodule\n")
-    for text in ((HDL / "sample/timer.v").read_text(encoding="utf-8"), model):
-        ended = Verilog.run(bench_of(folder, "timer", text, "pri"))
-        expect(is_right(ended), f"the timer: {ended}")
+    arbiter, requester = sample_of(language, "arbiter"), sample_of(language, "requester")
+    for kind in KINDS:
+        for texts in ({"arbiter": arbiter}, {"requester": requester}, {}):
+            ended = run_arbitration(language, folder, vectors[kind], kind, **texts)
+            expect(is_right(ended) and f"{COMMANDS} passed" in ended.written, f"{language.name}: {[*texts]} of the kind {kind}: {ended}")
+    for text in (sample_of(language, "timer"), TIMERS[language.suffix]):
+        ended = run_timer(language, folder, text)
+        expect(is_right(ended), f"{language.name}: the timer: {ended}")
     whole = vectors["pri"].read_text(encoding="ascii")
     damaged = {"empty": "", "cut": whole[:300], "cut in its last line": whole[:-3], "of another format": whole.replace("\n01 ", "\n02 ", 1)}
-    bench = bench_of(folder, "arbiter", None, "pri")
     for what, text in damaged.items():
         (folder / "damaged").write_text(text, encoding="ascii")
-        ended = Verilog.run(bench, vectors=folder / "damaged")
-        expect(ended.status == 1 and "0 passed, 1 failed" in ended.written, f"arbiter vectors {what}: {ended}")
-    return f"arbiters of {len(KINDS)} kinds, requesters and bus timers"
+        ended = run_arbitration(language, folder, folder / "damaged", "pri")
+        expect(ended.status == 1 and "0 passed, 1 failed" in ended.written, f"{language.name}: arbiter vectors {what}: {ended}")
+    return f"{language.name}: arbiters of {len(KINDS)} kinds, requesters and bus timers"
 
 
-def wrong_design(folder: Path, path: Path, edit: Edit) -> None:
+def wrong_design(language, folder: Path, path: Path, edit: Edit) -> None:
     """The bench finds an error of an arbiter, a requester or a timer."""
     name, kind = Path(edit.changes[0].file).stem, edit.fields.get("vectors", "pri")
-    ended = Verilog.run(bench_of(folder, name, edited(edit, HDL)[HDL / edit.changes[0].file], kind),
-                        vectors=arbiter_vectors(folder)[kind], first=True)
+    text = edited(edit, HDL)[HDL / edit.changes[0].file]
+    if name == "timer":
+        ended = run_timer(language, folder, text)
+    else:
+        ended = run_arbitration(language, folder, arbiter_vectors(folder)[kind], kind, True, **{name: text})
     expect(is_found(ended), f"{path.name} is not found: {ended}")
+    if os.environ.get("SHOW"):
+        print(f"== {path.name}\n{ended.written}")
 
 
 def compare(language, log: Path, wanted: list[str]) -> None:
