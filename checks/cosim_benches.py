@@ -83,6 +83,24 @@ def pipes(language, folder: Path) -> str:
     return f"pipes in {language.name}"
 
 
+def has_systemc() -> bool:
+    """Whether there is a C++ compiler with SystemC."""
+    words = ["c++", "-std=c++17", "-x", "c++", "-", "-o", "/dev/null", "-lsystemc"]
+    return shutil.which("c++") is not None and run(*words, given="#include <systemc>\nint sc_main(int, char **) { return 0; }\n").status == 0
+
+
+def systemc(folder: Path) -> str:
+    """The programs of examples/library/systemc print what stands beside them; checks/library runs the tour."""
+    source = ROOT / "examples/library/systemc"
+    for name in ("bridged", "rules"):
+        options = ["-std=c++17", "-O1", "-Wall", "-Wextra", f"-I{INCLUDE}", f"-I{source}"]
+        built = run("c++", *options, source / f"{name}.cpp", path_of("libvme.a"), "-lsystemc", "-o", folder / name)
+        expect(built.status == 0 and not built.told, f"{name}.cpp: {built.told}")
+        ended = run(folder / name, env={**os.environ, "SYSTEMC_DISABLE_COPYRIGHT_MESSAGE": "1"})
+        expect(ended.written == (source / f"{name}.out").read_text(encoding="ascii"), f"{name}.cpp: {ended.written}")
+    return "SystemC"
+
+
 def parts(languages, vectors: Path, is_quick: bool = False) -> list:
     """What the installed tools allow: functions that take a folder. Programs of Verilator take long to build."""
     found = [lambda folder, it=it: pipes(it, folder) for it in languages]
@@ -92,4 +110,6 @@ def parts(languages, vectors: Path, is_quick: bool = False) -> list:
         found.append(vhpidirect)
     if shutil.which("verilator") and not is_quick:
         found.append(verilator)
+    if has_systemc() and not is_quick:
+        found.append(systemc)
     return found
