@@ -1,5 +1,6 @@
 """Makes `pyvme` of this repository importable, over the library of lib/, for the programs of this folder."""
 
+import importlib
 import os
 import subprocess
 import sys
@@ -9,15 +10,28 @@ ROOT = Path(__file__).resolve().parent.parent
 
 
 def find() -> None:
-    """Puts pyvme on the path unless it is installed. Without LIBVME the library is that of lib/build, which `make` builds or renews
-    where it can; elsewhere it is the one that the loader finds."""
-    package, library = ROOT / "examples/library/python", ROOT / "lib/build/libvme.so"
+    """Imports pyvme, from the repository unless it is installed. Without LIBVME the library is that of lib/build, which `make` builds
+    or renews; where there is no lib/Makefile it is the one that the loader finds."""
+    package = ROOT / "examples/library/python"
     if package.is_dir():
         sys.path.append(str(package))
         sys.dont_write_bytecode = True
-    if "LIBVME" in os.environ or not os.access(ROOT / "lib/Makefile", os.R_OK):
-        return
-    made = subprocess.run(["make", "-s", "-C", ROOT / "lib"], stdout=subprocess.PIPE, stderr=subprocess.STDOUT, text=True, check=False)
-    if made.returncode or not library.exists():
-        sys.exit(f"libvme is not built: {made.stdout.strip()}\nhelp: install make and a C compiler, or let LIBVME name libvme.so")
+    if "LIBVME" not in os.environ and (ROOT / "lib/Makefile").exists():
+        build()
+    try:
+        importlib.import_module("pyvme")
+    except (ImportError, OSError) as fault:
+        sys.exit(f"pyvme cannot be used: {fault}\nhelp: install libvme, or let LIBVME name libvme.so")
+
+
+def build() -> None:
+    """Builds lib/build/libvme.so, or renews it."""
+    library = ROOT / "lib/build/libvme.so"
+    try:
+        made = subprocess.run(["make", "-s", "-C", ROOT / "lib"], stdout=subprocess.PIPE, stderr=subprocess.STDOUT, text=True, check=False)
+        said = made.stdout.strip()
+    except OSError as fault:
+        said = str(fault)
+    if not library.exists():
+        sys.exit(f"libvme is not built: {said}\nhelp: install make and a C compiler, or let LIBVME name libvme.so")
     os.environ["LIBVME"] = str(library)
