@@ -7,14 +7,14 @@ import sys
 from pathlib import Path
 
 from harness import ROOT, expect, fail, output, path_of, run
-from simulators import HDL, Verilog, must
+from simulators import HDL, Verilog, Vhdl, must
 
 sys.path.insert(0, str(ROOT / "scripts"))
 from edits import Edit, edited, read_edit  # noqa: E402
 
 KINDS = ["pri", "rrs", "sgl"]
 VERDICT = re.compile(r"^(\d+) passed, (\d+) failed$", re.MULTILINE)
-COMMANDS, REQUESTS = 300, 3000
+COMMANDS, REQUESTS = 200, 3000
 # The bus timer's model with the ports of a user's timer.
 TIMERS = {
     "v": """`timescale 1ns / 1ps
@@ -148,10 +148,11 @@ def masters(folder: Path, languages) -> str:
     return f"{count} requests of the masters with {len(wanted)} lines as by vme cycles"
 
 
-def three_masters(folder: Path) -> str:
+def three_masters(language, folder: Path) -> str:
     """Three masters on one backplane, whose bus log is that of `vme step` with the same order of tenures."""
     log = folder / "bus.log"
-    must("vvp", "-N", Verilog.build(folder, "bus_bench", HDL / "sample/bus_bench.v"), f"+log={log}")
+    ended = language.run(language.build(folder, "bus_bench", HDL / f"sample/bus_bench.{language.suffix}"), log=log)
+    expect(ended.status == 0, f"three masters in {language.name}: {ended}")
     lines = log.read_text(encoding="ascii").splitlines()
     (folder / "bus.toml").write_text(output(HDL / "schedule", log, HDL / "sample/bus.toml"), encoding="ascii")
     report = run(path_of("vme"), "step", folder / "bus.toml").written.splitlines()
@@ -163,17 +164,22 @@ def three_masters(folder: Path) -> str:
     errors = [it for it in lines if " berr slot=3" in it or it.endswith("bus timer")]
     wanted = [it for it in report if re.match(r"3:\d+ berr", it)]
     expect(len(errors) == 4 and wanted == ["3:2 berr 2 0000000000000000", "3:3 berr 0", "3:4 berr 0"], f"three masters: {errors} and {wanted}")
-    return f"{sum(' n=' in it for it in lines)} data of three masters as by vme step"
+    return f"{language.name}: {sum(' n=' in it for it in lines)} data of three masters as by vme step"
 
 
-def lints() -> str:
-    """The sample designs have no warning of Verilator; one of a clock of their own is not theirs."""
-    if not shutil.which("verilator"):
-        return ""
-    for name, top in (("slave", "slave"), ("arbiter", "arbiter"), ("timer", "timer")):
-        ended = run("verilator", "--lint-only", "-Wall", "-Wno-DECLFILENAME", "--top-module", top, HDL / f"sample/{name}.v")
-        expect(ended.status == 0, f"{name}.v: {ended.told}")
-    return "3 designs without a warning of Verilator"
+def lints(folder: Path) -> str:
+    """The sample designs have no warning of Verilator, and models and designs are VHDL-93."""
+    said = []
+    if shutil.which("verilator"):
+        for name in ("slave", "arbiter", "timer"):
+            ended = run("verilator", "--lint-only", "-Wall", "-Wno-DECLFILENAME", "--top-module", name, HDL / f"sample/{name}.v")
+            expect(ended.status == 0, f"{name}.v: {ended.told}")
+        said.append("3 designs without a warning of Verilator")
+    if shutil.which("ghdl"):
+        designs = [HDL / f"sample/{name}.vhd" for name in ("slave", "arbiter", "requester", "timer")]
+        must("ghdl", "-a", "--std=93", f"--workdir={folder}", *Vhdl.models, *designs)
+        said.append(f"{len(Vhdl.models) + len(designs)} files of VHDL-93")
+    return ", ".join(said) or "no lint"
 
 
 def read(path: Path) -> Edit:

@@ -6,8 +6,8 @@ import shutil
 import subprocess
 from pathlib import Path
 
-from bus_benches import is_right
-from harness import ROOT, expect, path_of, run
+from bus_benches import VERDICT, is_right
+from harness import ROOT, expect, fail, path_of, run
 from simulators import HDL, Verilog, Vhdl, must
 
 COSIM, INCLUDE = HDL / "cosim", ROOT / "include"
@@ -39,33 +39,43 @@ def shadow(folder: Path, vectors: Path) -> str:
         ended = run("vvp", "-N", f"-M{folder}", "-mvme_vpi", program, f"+vectors={vectors}")
         counts.append([int(it) for it in re.findall(r"^shadow: (\d+) transfers, (\d+) differences$", ended.written, re.MULTILINE)[0]])
     expect(counts[0][0] > 1000 and counts[0][1] == 0 and counts[1][1] > 0, f"the shadow counts {counts}")
-    return f"{counts[0][0]} transfers with the shadow"
+    return f"the shadow: {counts[0][0]} transfers by VPI"
 
 
-def vhpidirect(folder: Path) -> str:
-    """The functions of vme_sim.h by VHPIDIRECT, in GHDL, which looks for the library already when it analyses."""
+def vhpidirect(folder: Path, vectors: Path) -> str:
+    """The functions of vme_sim.h by VHPIDIRECT, and the shadow, in GHDL, which looks for the library already when it analyses."""
     must("cc", *C, "-shared", "-o", folder / "libvme_sim.so", COSIM / "vme_sim.c", path_of("libvme.a"))
     how = {"env": {**os.environ, "LD_LIBRARY_PATH": str(folder)}}
     flags = ["--std=08", f"--workdir={folder}"]
     must("ghdl", "-a", *flags, HDL / "vhdl/vme_text.vhd", COSIM / "vme_sim.vhd", HDL / "sample/vhpi_bench.vhd", **how)
     must("ghdl", "-e", *flags, "vhpi_bench", **how)
     says_calls("VHPIDIRECT", run("ghdl", "-r", *flags, "vhpi_bench", **how))
-    return "VHPIDIRECT"
+    sources = [COSIM / "vme_shadow.vhd", HDL / "sample/shadow.vhd", HDL / "vhdl/vme_slave_bench.vhd"]
+    must("ghdl", "-a", *flags, *Vhdl.models, COSIM / "vme_sim.vhd", *sources, **how)
+    must("ghdl", "-e", *flags, "vme_slave_bench", **how)
+    ended = run("ghdl", "-r", *flags, "vme_slave_bench", f"-gVECTORS={vectors}", "--ieee-asserts=disable", **how)
+    counts = re.findall(r"^shadow: (\d+) transfers, (\d+) differences$", ended.written, re.MULTILINE)
+    expect(is_right(ended) and counts and int(counts[-1][0]) >= 1000 and counts[-1][1] == "0", f"the shadow by VHPIDIRECT: {ended}")
+    return f"{counts[-1][0]} by VHPIDIRECT"
 
 
 def verilator(folder: Path) -> str:
-    """The functions by DPI-C, and the sample slave beside a board of libvme, both in Verilator."""
+    """The functions by DPI-C; and the sample slave beside a board of libvme, with the shadow by DPI-C; both in Verilator."""
     link = ["-CFLAGS", f"-I{INCLUDE}", "-LDFLAGS", path_of("libvme.a")]
     sources = [COSIM / "vme_dpi.sv", HDL / "sample/dpi_bench.sv", COSIM / "vme_sim.c"]
     built = run("verilator", "--binary", "--top-module", "dpi_bench", "-Mdir", folder / "dpi", *link, *sources, "-o", "bench")
-    expect(built.status == 0, f"DPI-C: {built.told}")
+    if built.status != 0:
+        fail(f"DPI-C: {built.told}")
     says_calls("DPI-C", run(folder / "dpi/bench"))
-    sources = [HDL / "sample/slave.v", COSIM / "verilator_bench.cpp"]
-    built = run("verilator", "--cc", "--exe", "--build", "--top-module", "slave", "-Mdir", folder / "slave", *link, *sources, "-o", "bench")
-    expect(built.status == 0, f"Verilator: {built.told}")
+    sources = [COSIM / "vme_dpi.sv", HDL / "sample/shadowed_slave.sv", COSIM / "vme_shadow.v", HDL / "sample/slave.v",
+               COSIM / "verilator_bench.cpp", COSIM / "vme_sim.c"]
+    options = ["-DVME_DPI", "--prefix", "Vslave", "--top-module", "shadowed_slave", "-Mdir", folder / "slave"]
+    built = run("verilator", "--cc", "--exe", "--build", *options, *link, *sources, "-o", "bench")
+    if built.status != 0:
+        fail(f"Verilator: {built.told}")
     ended = run(folder / "slave/bench", REQUESTS)
-    expect(is_right(ended), f"Verilator: {ended}")
-    return f"{ended.written.split()[0]} requests in Verilator, DPI-C"
+    expect(is_right(ended) and re.search(r"^shadow: \d{5} transfers, 0 differences$", ended.written, re.MULTILINE), f"Verilator: {ended}")
+    return f"{VERDICT.findall(ended.written)[0][0]} requests in Verilator, with the shadow by DPI-C"
 
 
 def pipes(language, folder: Path) -> str:
@@ -107,7 +117,7 @@ def parts(languages, vectors: Path, is_quick: bool = False) -> list:
     if Verilog in languages and shutil.which("iverilog-vpi"):
         found.append(lambda folder: shadow(folder, vectors))
     if Vhdl in languages:
-        found.append(vhpidirect)
+        found.append(lambda folder: vhpidirect(folder, vectors))
     if shutil.which("verilator") and not is_quick:
         found.append(verilator)
     if has_systemc() and not is_quick:

@@ -175,6 +175,7 @@ int main(int argc, char **argv)
     clocks(4);
     Golden golden;
     for (long number = 0; number < requests + static_cast<long>(SIZE); number++) golden.check(draw_request(draw, number));
+    slave.final();
     std::printf("%ld passed, %ld failed\n", golden.passed, golden.failed);
     return golden.failed > 0 || golden.passed == 0;
 }
