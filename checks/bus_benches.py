@@ -163,7 +163,8 @@ def three_masters(language, folder: Path) -> str:
         expect(found == wanted and len(found) == 4, f"three masters: slot {slot} reads {found}, and `vme step` {wanted}")
     errors = [it for it in lines if " berr slot=3" in it or it.endswith("bus timer")]
     wanted = [it for it in report if re.match(r"3:\d+ berr", it)]
-    expect(len(errors) == 4 and wanted == ["3:2 berr 2 0000000000000000", "3:3 berr 0", "3:4 berr 0"], f"three masters: {errors} and {wanted}")
+    is_right_end = len(errors) == 4 and wanted == ["3:2 berr 2 0000000000000000", "3:3 berr 0", "3:4 berr 0"]
+    expect(is_right_end, f"three masters: {errors} and {wanted}")
     return f"{language.name}: {sum(' n=' in it for it in lines)} data of three masters as by vme step"
 
 

@@ -1,5 +1,6 @@
 """libvme beside a design, as checks/hdl runs it: the shadow by VPI, DPI-C, VHPIDIRECT, Verilator, and `bendrika serve` over pipes."""
 
+import functools
 import os
 import re
 import shutil
@@ -35,7 +36,8 @@ def shadow(folder: Path, vectors: Path) -> str:
     for text in (right, wrong):
         (folder / "slave.v").write_text(text, encoding="utf-8")
         program, sources = folder / "shadow.vvp", [HDL / "sample/shadow_bench.v", COSIM / "vme_shadow.v", HDL / "verilog/vme_slave_bench.v"]
-        must("iverilog", "-g2005", "-Wall", f"-L{folder}", "-mvme_vpi", "-s", "shadow_bench", "-o", program, folder / "slave.v", *sources, *Verilog.models)
+        options = ["-g2005", "-Wall", f"-L{folder}", "-mvme_vpi", "-s", "shadow_bench", "-o", program]
+        must("iverilog", *options, folder / "slave.v", *sources, *Verilog.models)
         ended = run("vvp", "-N", f"-M{folder}", "-mvme_vpi", program, f"+vectors={vectors}")
         counts.append([int(it) for it in re.findall(r"^shadow: (\d+) transfers, (\d+) differences$", ended.written, re.MULTILINE)[0]])
     expect(counts[0][0] > 1000 and counts[0][1] == 0 and counts[1][1] > 0, f"the shadow counts {counts}")
@@ -93,10 +95,12 @@ def pipes(language, folder: Path) -> str:
     return f"pipes in {language.name}"
 
 
+@functools.cache
 def has_systemc() -> bool:
     """Whether there is a C++ compiler with SystemC."""
     words = ["c++", "-std=c++17", "-x", "c++", "-", "-o", "/dev/null", "-lsystemc"]
-    return shutil.which("c++") is not None and run(*words, given="#include <systemc>\nint sc_main(int, char **) { return 0; }\n").status == 0
+    text = "#include <systemc>\nint sc_main(int, char **) { return 0; }\n"
+    return shutil.which("c++") is not None and run(*words, given=text).status == 0
 
 
 def systemc(folder: Path) -> str:
@@ -111,15 +115,15 @@ def systemc(folder: Path) -> str:
     return "SystemC"
 
 
-def parts(languages, vectors: Path, is_quick: bool = False) -> list:
-    """What the installed tools allow: functions that take a folder. Programs of Verilator take long to build."""
+def parts(languages, vectors: Path) -> list:
+    """What the installed tools allow: functions that take a folder."""
     found = [lambda folder, it=it: pipes(it, folder) for it in languages]
     if Verilog in languages and shutil.which("iverilog-vpi"):
         found.append(lambda folder: shadow(folder, vectors))
     if Vhdl in languages:
         found.append(lambda folder: vhpidirect(folder, vectors))
-    if shutil.which("verilator") and not is_quick:
+    if shutil.which("verilator"):
         found.append(verilator)
-    if has_systemc() and not is_quick:
+    if has_systemc():
         found.append(systemc)
     return found

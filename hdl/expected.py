@@ -13,7 +13,8 @@ import find_pyvme
 
 find_pyvme.find()
 
-from pyvme import AddressMap, Arbiter, ArbiterKind, ArbiterReply, Board, BusError, Entry, Lines, NoBoard, Refused, Request, RequestKind  # noqa: E402
+from pyvme import AddressMap, Arbiter, ArbiterKind, ArbiterReply, Board, BusError, Entry  # noqa: E402
+from pyvme import Lines, NoBoard, Refused, Request, RequestKind  # noqa: E402
 
 NONE, DTACK, BERR, EITHER = 0, 1, 2, 3
 SLOTS = 21
