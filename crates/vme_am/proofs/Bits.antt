@@ -5,7 +5,7 @@ use Rattle.std.specs.Option.{option_map, option_and_then, ok_or}
 use Rattle.vme_am.specs.declared.code.Space.{Space}
 use Rattle.vme_am.specs.declared.code.Kind.{Kind}
 use Rattle.vme_am.specs.Bits.{space_by_bits, kind_by_bits}
-use Rattle.vme_am.specs.Codes.{CodeRow, row, row_at, read_code, fault_of}
+use Rattle.vme_am.specs.Codes.{CodeRow, row, row_at, read_code, code_fault}
 
 -- each number below n has the property
 abbrev AllBelow : (ℕ → Type 0) → ℕ → Type 0
@@ -44,4 +44,4 @@ pub read_by_bits :
     (code : ℕ) (space : Space) (kind : Kind) → code < 64 → space_by_bits code ≡ Some space → kind_by_bits space code ≡ Some kind
     → Ok (row_with code space kind) ≡ read_code code
 unfolding read_code
-read_by_bits code space kind lt named accessed = sym (ap (λ found. ok_or found (fault_of code)) (row_by_bits code space kind lt named accessed))
+read_by_bits code space kind lt named accessed = sym (ap (λ found. ok_or found (code_fault code)) (row_by_bits code space kind lt named accessed))

@@ -40,9 +40,9 @@ row_at code = find (λ r. r.code == code) table
 
 -- the fault of a number without a row: above 3f, from 10 to 1f (user-defined), or another number;
 -- IEEE 1014-1987, 2.2.2 (address modifier lines)
-abbrev pub fault_of : ℕ → AmFault
-fault_of code = if nat_lt 0x3f code then TooLarge else (if nat_le 0x10 code && nat_le code 0x1f then UserDefined else Reserved)
+abbrev pub code_fault : ℕ → AmFault
+code_fault code = if nat_lt 0x3f code then TooLarge else (if nat_le 0x10 code && nat_le code 0x1f then UserDefined else Reserved)
 
 -- the row of a number, or else its fault
 unfoldable pub read_code : ℕ → Result CodeRow AmFault
-read_code code = ok_or (row_at code) (fault_of code)
+read_code code = ok_or (row_at code) (code_fault code)

@@ -14,7 +14,7 @@ use Rattle.vme_arbiter.specs.declared.kind.ArbiterKind.TheVariants.{Rotating}
 use Rattle.vme_arbiter.specs.Levels.{level_order, level_precedes, levels_before, first_after}
 use Rattle.vme_arbiter.specs.Requests.{BusRequest, bus_request}
 use Rattle.vme_arbiter.specs.Grants.{IsBehind}
-use Rattle.vme_arbiter.specs.Arbitration.{Arbitration, holds, can_ask, lawful_ask, bus_after_release, next_of, arbiter_step}
+use Rattle.vme_arbiter.specs.Arbitration.{Arbitration, holds, can_ask, lawful_ask, bus_after_release, next_granted, arbiter_step}
 use Rattle.vme_arbiter.specs.Orderly.{IsBySlot, IsOrderly, IsLawfulRequest}
 use Rattle.vme_arbiter.specs.Shares.{grant_of, grants_in, IsLowest, LeavesLowest, Waits}
 use Rattle.vme_arbiter.proofs.Orders.{before-apart, turn-nearer, three-before}
@@ -51,7 +51,7 @@ holder-granted bus (Ask asks level) slot other now =
 holder-granted bus (Look looks) slot other now = absurd (other now)
 holder-granted bus (Done done) slot other now =
     elim (cases_Bool (holds bus done)) [
-      | inl held ↦ rw held (handed_granted (next_of bus) bus slot (rw held at now))
+      | inl held ↦ rw held (handed_granted (next_granted bus) bus slot (rw held at now))
       | inr not_held ↦ absurd (other (rw not_held at now))
     ]
 
@@ -111,7 +111,7 @@ taken_goes (Some h) bus r new later is orderly lowest leaves = (
 )
 
 -- a grant to another request than the lowest on a level is on a level that precedes it
-granted_instead : (bus : Arbitration) (r next : BusRequest) → IsOrderly bus → IsLowest bus r → next_of bus ≡ Some next → next ≢ r
+granted_instead : (bus : Arbitration) (r next : BusRequest) → IsOrderly bus → IsLowest bus r → next_granted bus ≡ Some next → next ≢ r
     → level_precedes (level_order bus.first) next.level r.level ≡ true
 granted_instead bus r next orderly lowest is_next other =
     let is = granted-next bus.first bus.pending next orderly.first (levels_ok bus.pending orderly.requests) is_next in
@@ -132,7 +132,7 @@ record Passed (bus : Arbitration) (r next : BusRequest) : Type 0 where
   nearer : levels_before (level_order (first_after bus.kind next.level)) r.level < levels_before (level_order bus.first) r.level
 
 -- a grant to another request than the lowest on its level passes that request
-passed_by : (bus : Arbitration) (r next : BusRequest) → WaitsOn bus r → next_of bus ≡ Some next → next ≢ r → Passed bus r next
+passed_by : (bus : Arbitration) (r next : BusRequest) → WaitsOn bus r → next_granted bus ≡ Some next → next ≢ r → Passed bus r next
 passed_by bus r next on is_next other =
     let levels = level_order bus.first in
     let before = granted_instead bus r next on.orderly on.waits is_next other in
@@ -153,7 +153,7 @@ passed_by bus r next on is_next other =
     }
 
 -- after a release, the request still waits, and the grants from the release on have the properties
-handed_goes : (bus : Arbitration) (r : BusRequest) (next : Option BusRequest) (later : List BusRequest) → WaitsOn bus r → next_of bus ≡ next
+handed_goes : (bus : Arbitration) (r : BusRequest) (next : Option BusRequest) (later : List BusRequest) → WaitsOn bus r → next_granted bus ≡ next
     → All (λ grant. grant ≢ r) (cons_option next later)
     → IsLowest (bus_after_release next bus) r × (Goes (bus_after_release next bus) r later → Goes bus r (cons_option next later))
 handed_goes bus r None later on is_next others =
@@ -184,7 +184,7 @@ turn_goes bus r (Ask slot level) later on leaves others =
 turn_goes bus r (Look slot) later on leaves others = (on.waits, λ goes. goes)
 turn_goes bus r (Done slot) later on leaves others =
     elim (cases_Bool (holds bus slot)) [
-      | inl held ↦ rw held (handed_goes bus r (next_of bus) later on refl (rw held at others))
+      | inl held ↦ rw held (handed_goes bus r (next_granted bus) later on refl (rw held at others))
       | inr not_held ↦ rw not_held (on.waits, λ goes. goes)
     ]
 

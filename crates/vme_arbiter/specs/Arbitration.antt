@@ -63,12 +63,12 @@ bus_after_release None bus = record bus { holder = None }
 bus_after_release (Some next) bus = granted next (without_slot next.slot bus.pending) bus
 
 -- the request that is granted next, if any: by the order of levels from the first level
-abbrev pub next_of : Arbitration → Option BusRequest
-next_of bus = next_request (level_order bus.first) bus.pending
+abbrev pub next_granted : Arbitration → Option BusRequest
+next_granted bus = next_request (level_order bus.first) bus.pending
 
 -- the step of a release
 abbrev pub done_step : Arbitration → ℕ → Arbitration × ArbReply
-done_step bus slot = if holds bus slot then (bus_after_release (next_of bus) bus, Freed) else (bus, Denied)
+done_step bus slot = if holds bus slot then (bus_after_release (next_granted bus) bus, Freed) else (bus, Denied)
 
 -- the step of the arbiter: the new state and the reply for a command
 abbrev pub arbiter_step : Arbitration → ArbCmd → Arbitration × ArbReply

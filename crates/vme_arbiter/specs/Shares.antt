@@ -7,7 +7,7 @@ use Rattle.vme_arbiter.specs.declared.command.ArbCmd.{ArbCmd}
 use Rattle.vme_arbiter.specs.declared.command.ArbCmd.TheVariants.{Ask, Look, Done}
 use Rattle.vme_arbiter.specs.declared.command.ArbReply.{ArbReply}
 use Rattle.vme_arbiter.specs.Requests.{BusRequest, bus_request}
-use Rattle.vme_arbiter.specs.Arbitration.{Arbitration, holds, can_ask, next_of, arbiter_step}
+use Rattle.vme_arbiter.specs.Arbitration.{Arbitration, holds, can_ask, next_granted, arbiter_step}
 
 -- the request to which a command grants the bus, if any: a new request on a free bus, or the next one when the holder
 -- releases the bus
@@ -15,7 +15,7 @@ abbrev pub grant_of : Arbitration → ArbCmd → Option BusRequest
 grant_of bus (Ask slot level) =
     if can_ask bus slot level then option_map_or (λ holder. None) bus.holder (Some (bus_request level slot)) else None
 grant_of bus (Look slot) = None
-grant_of bus (Done slot) = if holds bus slot then next_of bus else None
+grant_of bus (Done slot) = if holds bus slot then next_granted bus else None
 
 -- the requests to which a history grants the bus, in order
 abbrev pub grants_in : Arbitration → List (Entry ArbCmd ArbReply) → List BusRequest

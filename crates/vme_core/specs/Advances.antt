@@ -14,11 +14,13 @@ CanMake machine call = IfSome call (λ call. CanCount machine (target_of_call ca
 -- the machine and a task after a call for a processor, if there is one: the task advances by the reply
 abbrev pub advanced_on : {T : Type 0} → (T → Option EventReply → T) → Option Call → ℕ → Machine → T → Machine × T
 advanced_on advance None who machine task = (machine, task)
-advanced_on advance (Some call) who machine task = ((machine_step machine who call).0, advance task (Some (machine_step machine who call).1))
+advanced_on advance (Some call) who machine task =
+    ((machine_step machine who call).0, advance task (Some (machine_step machine who call).1))
 
 -- a task makes its next call for a processor and advances by the reply; without a next call nothing changes. A task
 -- that has begun stays begun, and the numbers of boards and of processors stay
-pub record AdvancesOn {T R : Type 0} (next : T → NextStep R) (advance : T → Option EventReply → T) (who : ℕ) (before after : Machine)
+pub record AdvancesOn {T R : Type 0} (next : T → NextStep R) (advance : T → Option EventReply → T) (who : ℕ)
+    (before after : Machine)
     (old new : T) : Type 0 where
   pub step : (after, new) ≡ advanced_on advance (call_in (next old)) who before old
   pub begun : next old ≢ NotStarted → next new ≢ NotStarted

@@ -15,7 +15,8 @@ fresh_count k object = record { object = object; steps = 0; made = replicate k 0
 
 -- an object went through a history that is legal from its state, and each entry was counted once in all and once for
 -- its processor
-pub record IsObjectRun {S C R : Type 0} (step : S → C → S × R) (h : List (Entry C R)) (before after : CountedState S) : Type 0 where
+pub record IsObjectRun {S C R : Type 0} (step : S → C → S × R) (h : List (Entry C R))
+    (before after : CountedState S) : Type 0 where
   pub legal : IsLegal step before.object h
   pub object : after.object ≡ replay step before.object h
   pub steps : after.steps ≡ before.steps + length h
@@ -24,7 +25,8 @@ pub record IsObjectRun {S C R : Type 0} (step : S → C → S × R) (h : List (E
 
 -- an object is the replay of a legal history from its start; its steps are the entries, and the steps of each processor
 -- below k are that processor's entries
-pub record IsCountedReplay {S C R : Type 0} (step : S → C → S × R) (start : S) (h : List (Entry C R)) (k : ℕ) (t : CountedState S) : Type 0 where
+pub record IsCountedReplay {S C R : Type 0} (step : S → C → S × R) (start : S) (h : List (Entry C R)) (k : ℕ)
+    (t : CountedState S) : Type 0 where
   pub legal : IsLegal step start h
   pub object : t.object ≡ replay step start h
   pub steps : t.steps ≡ length h

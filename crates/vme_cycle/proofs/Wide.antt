@@ -5,7 +5,7 @@ use Rattle.std.specs.List.{list_all}
 use Rattle.std.specs.Option.{ok_or}
 use Rattle.std.proofs.lemmas.Bool.{cases_Bool, and_parts, eqb-true}
 use Rattle.vme_am.specs.Kinds.{is_block}
-use Rattle.vme_am.specs.Codes.{CodeRow, table, row_at, fault_of, read_code}
+use Rattle.vme_am.specs.Codes.{CodeRow, table, row_at, code_fault, read_code}
 use Rattle.vme_lanes.specs.declared.location.Location.{Location}
 use Rattle.vme_lanes.specs.Rows.{row_of}
 use Rattle.vme_cycle.specs.Counts.{is_wide_row, is_wide_code}
@@ -30,7 +30,7 @@ found_block : (row : CodeRow) → row.wide ≡ true → only_blocks row ≡ true
 found_block row wide only = rw wide at only
 
 -- the row that is read for a code was found in the table
-read_at : (code : ℕ) (row : CodeRow) (found : Option CodeRow) → ok_or found (fault_of code) ≡ Ok row → found ≡ Some row
+read_at : (code : ℕ) (row : CodeRow) (found : Option CodeRow) → ok_or found (code_fault code) ≡ Ok row → found ≡ Some row
 read_at code row None h = absurd cc
 read_at code row (Some r) h = cc
 

@@ -6,7 +6,7 @@ use Rattle.vme_script.specs.declared.context.ScriptContext.{ScriptContext}
 use Rattle.vme_grammar.specs.declared.fault.LineFault.TheVariants.{BadNumber}
 use Rattle.vme_script.specs.declared.mailbox_numbers.MailboxNumbers.TheVariants.{Declared}
 use Rattle.vme_script.specs.MailboxNumbers.{may_name}
-use Rattle.vme_script.specs.Contexts.{boxes_of, refusal_of, unless_refused, line_within}
+use Rattle.vme_script.specs.Contexts.{boxes_of, refusal_of, line_unless_refused, line_within}
 use Rattle.vme_grammar.specs.Grammar.{line_of}
 use Rattle.vme_script.specs.declared.fault.ScriptRefusal.{ScriptRefusal}
 use Rattle.vme_script.specs.declared.script.ScriptLine.{ScriptLine}
@@ -53,7 +53,7 @@ pub fault_empty : (rules : ScriptContext) (text : List ℕ) → line_of text ≡
 fault_empty rules text read = rw (empty rules text read) refl
 
 -- a line that is kept unless it has a refusal has that refusal
-unless_faulted : (refusal : Option LineFault) (line : Line) → fault_of (unless_refused refusal line) ≡ refusal
+unless_faulted : (refusal : Option LineFault) (line : Line) → fault_of (line_unless_refused refusal line) ≡ refusal
 unless_faulted None line = refl
 unless_faulted (Some fault) line = refl
 

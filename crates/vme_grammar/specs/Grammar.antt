@@ -21,9 +21,9 @@ abbrev pub ◌>>=◌ : {A B : Type 0} → Result A LineFault → (A → Result B
 (Err fault) >>= f = Err fault
 
 -- the given refusal, if the test holds
-abbrev pub refuse : Bool → LineFault → Result (Unit {0}) LineFault
-refuse true fault = Err fault
-refuse false fault = Ok tt
+abbrev pub refuse_line : Bool → LineFault → Result (Unit {0}) LineFault
+refuse_line true fault = Err fault
+refuse_line false fault = Ok tt
 
 -- whether words match the fixed words among some places; an absent word counts as `absent`
 abbrev pub matches_fixed : Bool → List Place → List (List ℕ) → Bool
@@ -36,7 +36,7 @@ matches_fixed absent (Of field ∷ more) words = matches_fixed absent more (drop
 -- a form only with absent words
 unfoldable pub form_of : List (List ℕ) → Result LineForm LineFault
 form_of words = do
-  _ ← refuse (not (list_any (λ form. matches_fixed true (places form) words) forms)) UnknownWord
+  _ ← refuse_line (not (list_any (λ form. matches_fixed true (places form) words) forms)) UnknownWord
   ok_or (find (λ form. matches_fixed false (places form) words) forms) WordCount
 
 -- the operands that fields give, one word a field; the refusal is that of the first word from the left that is
@@ -51,7 +51,7 @@ fields_read (field ∷ fields) (word ∷ words) o = do
 -- the operands that fields give; a wrong number of words is refused before any malformed word
 unfoldable pub operands_of : List Field → List (List ℕ) → Result Operands LineFault
 operands_of fields words = do
-  _ ← refuse (not (length words == length fields)) WordCount
+  _ ← refuse_line (not (length words == length fields)) WordCount
   fields_read fields words no_operands
 
 -- the line that words spell, by their form

@@ -13,7 +13,7 @@ use Rattle.vme_grammar.specs.declared.fault.LineFault.TheVariants.{WordCount, Ba
 use Rattle.vme_grammar.specs.declared.function.Function.{Function}
 use Rattle.vme_grammar.specs.declared.function.Function.TheVariants.{Set, Exchange, Add, Compare}
 use Rattle.vme_lexer.specs.Numbers.{hex_number, small_number, local_number, exact_bytes}
-use Rattle.vme_grammar.specs.Grammar.{◌>>=◌, refuse}
+use Rattle.vme_grammar.specs.Grammar.{◌>>=◌, refuse_line}
 use Rattle.vme_grammar.specs.Naming.{function_of}
 
 -- the first three words, and the words after them
@@ -70,7 +70,7 @@ unfoldable pub modify_line : List (List ℕ) → Result Line LineFault
 modify_line words = do
   parts ← ok_or (four_and_more words) WordCount
   function ← function_of (Some parts.3)
-  _ ← refuse (not (length parts.4 == operand_count function)) WordCount
+  _ ← refuse_line (not (length parts.4 == operand_count function)) WordCount
   place ← field_place parts.0 parts.1
   n ← ok_or (small_number parts.2) BadNumber
   f ← modify_of function n parts.4
@@ -81,7 +81,7 @@ unfoldable pub local_modify_line : List (List ℕ) → Result Line LineFault
 local_modify_line words = do
   parts ← ok_or (three_and_more words) WordCount
   function ← function_of (Some parts.2)
-  _ ← refuse (not (length parts.3 == operand_count function)) WordCount
+  _ ← refuse_line (not (length parts.3 == operand_count function)) WordCount
   offset ← ok_or (hex_number 8 parts.0) BadAddress
   n ← ok_or (local_number parts.1) BadNumber
   f ← modify_of function n parts.3

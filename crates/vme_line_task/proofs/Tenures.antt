@@ -16,7 +16,7 @@ use Rattle.vme_master.specs.declared.job.Job.{Job}
 use Rattle.vme_master.specs.declared.job.Job.TheVariants.{Bus, Local}
 use Rattle.vme_master.specs.declared.outcome.Outcome.{Outcome}
 use Rattle.vme_master.specs.declared.outcome.Outcome.TheVariants as outcomes
-use Rattle.vme_master.specs.Jobs.{local_call, fits}
+use Rattle.vme_master.specs.Jobs.{local_call, fits_call}
 use Rattle.vme_master.specs.Tables.{Inputs, next_of, outcome_by, row_of_reply}
 use Rattle.vme_master.proofs.lemmas.Tenures.{ends_freed}
 use Rattle.vme_master.proofs.lemmas.Locals.{local_calls}
@@ -51,7 +51,7 @@ row_granted (Local j) g call (replies.Board Done) made good denial = end_granted
 row_granted (Local j) g call (replies.Board Berr) made good denial = denial
 row_granted (Local j) g call (replies.Bus reply) made good denial =
     let own : call ≡ local_call j = local_calls j g call made in
-    let fit : fits (local_call j) (replies.Bus reply) ≡ true = subst (λ c. fits c (replies.Bus reply) ≡ true) own good.fit in
+    let fit : fits_call (local_call j) (replies.Bus reply) ≡ true = subst (λ c. fits_call c (replies.Bus reply) ≡ true) own good.fit in
     absurd cc
 
 -- after a reply that fits, the next step of a task is that of its table

@@ -6,3 +6,4 @@ pub mod Kept
 pub mod LineBuffers
 pub mod Lines
 pub mod Mailboxes
+pub mod Once

@@ -9,7 +9,7 @@ use Rattle.vme_core.specs.declared.event.EventReply.TheVariants as event_replies
 use Rattle.vme_core.specs.Calls.{Call}
 use Rattle.vme_master.specs.declared.job.Job.{Job}
 use Rattle.vme_master.specs.declared.job.Job.TheVariants.{Bus, Local}
-use Rattle.vme_master.specs.Jobs.{fits}
+use Rattle.vme_master.specs.Jobs.{fits_call}
 use Rattle.vme_master.specs.Tables.{Inputs}
 use Rattle.vme_master.specs.Laws.{last_arb_reply}
 use Rattle.vme_master.specs.declared.outcome.Outcome.TheVariants as outcomes
@@ -51,7 +51,7 @@ IsLocal command = ⊥
 
 -- a reply that fits a call, and is no denial of the arbiter
 pub record IsUndeniedReply (call : Call) (reply : EventReply) : Type 0 where
-  pub fit : IsTrue (fits call reply)
+  pub fit : IsTrue (fits_call call reply)
   pub granted : reply ≢ event_replies.Bus arb_replies.Denied
 
 -- a line's reply that is no denial

@@ -15,10 +15,12 @@ use Rattle.vme_line_task.specs.Tables.{line_next}
 abbrev pub Continues : Configuration → ℕ → Line → List EventReply → List Transition → List EventReply → Type 0
 Continues config board line before [] replies = before ≡ replies
 Continues config board line before (m ∷ moves) replies =
-    (line_next config board line before ≡ Invokes (call_of m.event)) × Continues config board line (m.reply ∷ before) moves replies
+    (line_next config board line before ≡ Invokes (call_of m.event))
+    × Continues config board line (m.reply ∷ before) moves replies
 
 -- the trace of a line: these transitions are all its calls, and the last reply leads to the line's reply
-pub record LineTrace (config : Configuration) (board : ℕ) (line : Line) (moves : List Transition) (answer : LineReply) : Type 0 where
+pub record LineTrace (config : Configuration) (board : ℕ) (line : Line) (moves : List Transition)
+    (answer : LineReply) : Type 0 where
   pub replies : List EventReply
   pub goes : Continues config board line [] moves replies
   pub ends : line_next config board line replies ≡ Returns answer
@@ -44,7 +46,8 @@ IsNextLinePrefix config board (line ∷ left) moves replies = Continues config b
 
 -- the transitions of a processor up to a script state: the first of them are the trace of the lines that have ended,
 -- and the rest are those of the next line
-pub record IsTracePrefix (config : Configuration) (board : ℕ) (moves : List Transition) (script_state : ScriptState) : Type 0 where
+pub record IsTracePrefix (config : Configuration) (board : ℕ) (moves : List Transition)
+    (script_state : ScriptState) : Type 0 where
   pub finished : List Line
   pub left : List Line
   pub lines : lines_at config board ≡ finished ++ left

@@ -32,7 +32,7 @@ use Rattle.vme_shared.specs.declared.stage.StageResult.{StageResult}
 use Rattle.vme_shared.specs.declared.stage.StageResult.TheVariants.{Continue, Finish}
 use Rattle.vme_shared.specs.Mailboxes.{mailbox_request, stage_request, set_lock, clear_lock}
 use Rattle.vme_shared.specs.Steps.{first_stage, step_after}
-use Rattle.vme_shared.specs.Tables.{SharedJob, Progress, At, Over, transfer_job, stage_job, stage_begun, step_begun, progress_by, progress_given, progress_of, next_at, shared_next}
+use Rattle.vme_shared.specs.Tables.{SharedJob, Progress, At, Over, checked_job, stage_job, stage_begun, step_begun, progress_by, progress_given, progress_of, next_at, shared_next}
 use Rattle.vme_shared.proofs.lemmas.Tenures.{shown_makes}
 use Rattle.vme_mailbox_laws.specs.Along.{mailbox_in, LiesAt, UsesMailbox, IsGood, GoesTo}
 use Rattle.vme_mailbox_laws.proofs.Stages.{shape, own_request, distance, distance_within, stage_command, stage_touches}
@@ -71,7 +71,7 @@ sent_by s request t g x command one lawful makes =
 
 -- the command of a bus job for a request with one datum is that datum
 sent_in : (s : SharedJob) (request : Request) (result : Result Transfer CycleFault) (job : Job) (g : Inputs) (x : ℕ) (command : Option Command)
-    → count_of request ≡ 1 → transfer_of request ≡ result → transfer_job s result ≡ Ok job → next_of job g ≡ Invokes (OnBoard x command)
+    → count_of request ≡ 1 → transfer_of request ≡ result → checked_job s result ≡ Ok job → next_of job g ≡ Invokes (OnBoard x command)
     → Sent s request x command
 sent_in s request (Ok t) job g x command one is made makes =
     let same : job ≡ bus_job s.map s.slot s.level t = cc in

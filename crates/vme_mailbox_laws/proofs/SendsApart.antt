@@ -23,7 +23,7 @@ use Rattle.vme_mailbox_laws.proofs.Datums.{taken, lock_cleared}
 use Rattle.vme_grammar.specs.Grammar.{IsOwnLine}
 use Rattle.vme_grammar.specs.declared.line.Line.TheVariants as lines
 use Rattle.vme_script.specs.declared.board_range.BoardRange.{BoardRange}
-use Rattle.vme_script.specs.Bytes.{transfer_bytes, request_bytes, local_bytes}
+use Rattle.vme_script.specs.Bytes.{transfer_bytes, request_bytes, local_range}
 use Rattle.vme_script.specs.Boards.{entries_of}
 use Rattle.vme_script.specs.Configurations.{Configuration}
 use Rattle.vme_line_task.specs.Scripts.{Transferring, Awaiting, Sharing, slot_at, level_at, transfer_job, request_attempt, unless_refused, shared_job, shared_attempt}
@@ -81,7 +81,7 @@ local_one who offset len x c own at long same =
 
 -- a command of a line for the local port is among the bytes that the line names
 pub local_sends : (who : ℕ) (cmd : BoardCmd) (x : ℕ) (c : Command) → IsOwnLine (lines.Local cmd)
-    → JobCalls (local_job who cmd) (OnBoard x (Some c)) → Among (local_bytes who cmd) x c
+    → JobCalls (local_job who cmd) (OnBoard x (Some c)) → Among (local_range who cmd) x c
 local_sends who (given.LocalRead offset n) x c own calls =
     local_one who offset n x c (LocalRead offset n) refl refl
     (local_calls (record { board = who; cmd = given.LocalRead offset n }) calls.0 (OnBoard x (Some c)) calls.1)

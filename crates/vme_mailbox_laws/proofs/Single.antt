@@ -13,7 +13,7 @@ use Rattle.vme_core.specs.NextSteps.{NextStep, NotStarted, Invokes, Returns}
 use Rattle.vme_master.specs.declared.outcome.Outcome.{Outcome}
 use Rattle.vme_master.specs.declared.job.BusJob.{BusJob}
 use Rattle.vme_master.specs.declared.job.Job.TheVariants.{Bus}
-use Rattle.vme_master.specs.Jobs.{ask_call, look_call, done_call, datum_call, fits, request_expected, expected_outcome}
+use Rattle.vme_master.specs.Jobs.{ask_call, look_call, done_call, datum_call, fits_call, request_expected, expected_outcome}
 use Rattle.vme_master.specs.Tables.{Inputs, data_in, bytes_in, datum_or_done, next_of}
 
 -- the bytes of a reply
@@ -26,7 +26,7 @@ reply_bytes Berr = []
 abbrev pub IsGoodTo : NextStep Outcome → Option EventReply → Type 0
 IsGoodTo NotStarted last = last ≡ None
 IsGoodTo (Invokes call) None = ⊥
-IsGoodTo (Invokes call) (Some reply) = IsTrue (fits call reply) × (reply ≢ replies.Board Berr) × (reply ≢ replies.Bus arb_replies.Denied)
+IsGoodTo (Invokes call) (Some reply) = IsTrue (fits_call call reply) × (reply ≢ replies.Board Berr) × (reply ≢ replies.Bus arb_replies.Denied)
 IsGoodTo (Returns outcome) last = Unit {0}
 
 -- the datum has no reply yet: the job has not started, requests the bus, polls the arbiter, or sends its datum
@@ -75,8 +75,8 @@ module _ (job : BusJob) (one : count_of job.transfer.request ≡ 1) where
     bytes = waits.bytes;
     next = inr (inr (inl (rw makes (rw good.0 refl))));
   }
-  waits_reported g cmd arb_replies.Freed (inl asks) waits makes good = let fit = ap (λ c. fits c (replies.Bus arb_replies.Freed)) (sym asks) ∙ good.0 in absurd cc
-  waits_reported g cmd arb_replies.Freed (inr looks) waits makes good = let fit = ap (λ c. fits c (replies.Bus arb_replies.Freed)) (sym looks) ∙ good.0 in absurd cc
+  waits_reported g cmd arb_replies.Freed (inl asks) waits makes good = let fit = ap (λ c. fits_call c (replies.Bus arb_replies.Freed)) (sym asks) ∙ good.0 in absurd cc
+  waits_reported g cmd arb_replies.Freed (inr looks) waits makes good = let fit = ap (λ c. fits_call c (replies.Bus arb_replies.Freed)) (sym looks) ∙ good.0 in absurd cc
   waits_reported g cmd arb_replies.Denied which waits makes good = absurd (good.2 refl)
 
   -- the datum has its reply after a good reply of a board

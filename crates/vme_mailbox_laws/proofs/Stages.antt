@@ -29,7 +29,7 @@ use Rattle.vme_shared.specs.declared.request.SharedRequest.TheVariants as shared
 use Rattle.vme_shared.specs.declared.stage.Stage.{Stage}
 use Rattle.vme_shared.specs.declared.stage.Stage.TheVariants.{Locks, ReadsPutCount, ReadsTakeCount, WritesWord, RaisesPutCount, ReadsWord, RaisesTakeCount, Unlocks}
 use Rattle.vme_shared.specs.Mailboxes.{raised, mailbox_request, stage_request}
-use Rattle.vme_shared.specs.Tables.{SharedJob, stage_job, transfer_job}
+use Rattle.vme_shared.specs.Tables.{SharedJob, stage_job, checked_job}
 use Rattle.vme_mailbox_laws.specs.Along.{mailbox_in, LiesAt}
 
 -- the distance of a stage's transfer from the first byte of the mailbox
@@ -167,7 +167,7 @@ by_transfer s mailbox board m stage request t some lies form lawful =
 -- the bus job of a request with the shape of a stage, if it is not refused, satisfies `IsStage`
 by_result : (s : SharedJob) (mailbox : Mailbox) (board : ℕ) (m : BoardMailbox) (stage : Stage) (request : Request) (job : Job)
     (result : Result Transfer CycleFault) → 1 ≤ m.slots → LiesAt s.map mailbox board m → Shape mailbox m stage request → transfer_of request ≡ result
-    → transfer_job s result ≡ Ok job → IsStage m board stage job
+    → checked_job s result ≡ Ok job → IsStage m board stage job
 by_result s mailbox board m stage request job (Ok t) some lies form is made =
     let same : bus_job s.map s.slot s.level t ≡ job = cc in
     subst (λ j. IsStage m board stage j) same (by_transfer s mailbox board m stage request t some lies form is)

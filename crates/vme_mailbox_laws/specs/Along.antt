@@ -11,7 +11,7 @@ use Rattle.vme_core.specs.declared.event.EventReply.{EventReply}
 use Rattle.vme_core.specs.declared.event.EventReply.TheVariants as replies
 use Rattle.vme_core.specs.Calls.{OnBoard}
 use Rattle.vme_core.specs.NextSteps.{NextStep, NotStarted, Invokes, Returns}
-use Rattle.vme_master.specs.Jobs.{fits}
+use Rattle.vme_master.specs.Jobs.{fits_call}
 use Rattle.vme_master.specs.Tables.{Inputs}
 use Rattle.vme_shared.specs.Layout.{mailbox_len}
 use Rattle.vme_shared.specs.MailboxSteps.{BoardMailbox, end_of, offset_of, len_of}
@@ -50,7 +50,7 @@ pub record UsesMailbox (s : SharedJob) (board : ℕ) (m : BoardMailbox) : Type 0
 abbrev pub IsGood : NextStep SharedOutcome → Option EventReply → Type 0
 IsGood NotStarted last = last ≡ None
 IsGood (Invokes call) None = ⊥
-IsGood (Invokes call) (Some reply) = IsTrue (fits call reply) × (reply ≢ replies.Board Berr) × (reply ≢ replies.Bus Denied)
+IsGood (Invokes call) (Some reply) = IsTrue (fits_call call reply) × (reply ≢ replies.Board Berr) × (reply ≢ replies.Bus Denied)
 IsGood (Returns outcome) last = Unit {0}
 
 -- all replies given to a put or a take are good

@@ -12,7 +12,7 @@ use Rattle.vme_core.specs.declared.event.EventReply.{EventReply}
 use Rattle.vme_core.specs.declared.event.EventReply.TheVariants as replies
 use Rattle.vme_core.specs.Runs.{Transition, board_part}
 use Rattle.vme_core.specs.Calls.{OnBus}
-use Rattle.vme_master.specs.Jobs.{fits}
+use Rattle.vme_master.specs.Jobs.{fits_call}
 use Rattle.vme_shared.specs.declared.reply.LineReply.{LineReply}
 use Rattle.vme_script.specs.Configurations.{Configuration}
 use Rattle.vme_line_task.specs.Scripts.{lines_at}
@@ -20,7 +20,8 @@ use Rattle.vme_line_task.specs.Traces.{IsTrace}
 
 -- a reply is of its event's kind; a reply of the arbiter also fits its command and is no denial
 abbrev pub IsFittingReply : Event → EventReply → Type 0
-IsFittingReply (events.Bus cmd) (replies.Bus reply) = IsTrue (fits (OnBus cmd) (replies.Bus reply)) × (replies.Bus reply ≢ replies.Bus Denied)
+IsFittingReply (events.Bus cmd) (replies.Bus reply) =
+    IsTrue (fits_call (OnBus cmd) (replies.Bus reply)) × (replies.Bus reply ≢ replies.Bus Denied)
 IsFittingReply (events.Board x cmd) (replies.Board reply) = Unit {0}
 IsFittingReply event reply = ⊥
 

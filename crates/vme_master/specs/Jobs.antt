@@ -71,10 +71,10 @@ answers_command cmd reply = true
 
 -- whether a reply fits a call: the arbiter can give it to the command; a board's has as many bytes as the command reads,
 -- is done if it reads none, or is a bus error
-abbrev pub fits : Call → EventReply → Bool
-fits (OnBus cmd) (replies.Bus reply) = answers_command cmd reply
-fits (OnBoard board command) (replies.Board reply) = has_form (option_and_then reply_len command) reply
-fits call reply = false
+abbrev pub fits_call : Call → EventReply → Bool
+fits_call (OnBus cmd) (replies.Bus reply) = answers_command cmd reply
+fits_call (OnBoard board command) (replies.Board reply) = has_form (option_and_then reply_len command) reply
+fits_call call reply = false
 
 -- the reply that each datum of a request expects, with the number of bytes
 abbrev pub request_expected : Request → ExpectedReply

@@ -14,7 +14,7 @@ use Rattle.vme_master.specs.declared.job.Job.{Job}
 use Rattle.vme_master.specs.declared.job.Job.TheVariants.{Bus, Local}
 use Rattle.vme_master.specs.declared.outcome.Outcome.{Outcome}
 use Rattle.vme_master.specs.declared.outcome.Outcome.TheVariants as outcomes
-use Rattle.vme_master.specs.Jobs.{ask_call, look_call, done_call, datum_call, local_call, fits, request_expected, command_expected, expected_outcome, error_outcome}
+use Rattle.vme_master.specs.Jobs.{ask_call, look_call, done_call, datum_call, local_call, fits_call, request_expected, command_expected, expected_outcome, error_outcome}
 
 -- what a task was given so far, the newest first: the reply to each call, or none
 abbrev pub Inputs : Type 0
@@ -77,7 +77,8 @@ abbrev pub next_after : Job → NextStep Outcome → Option EventReply → Input
 next_after job NotStarted None before = Invokes (first_call job)
 next_after job NotStarted (Some reply) before = Returns outcomes.Denied
 next_after job (Invokes call) None before = Returns outcomes.Denied
-next_after job (Invokes call) (Some reply) before = if fits call reply then row_of_reply job reply before else Returns outcomes.Denied
+next_after job (Invokes call) (Some reply) before =
+    if fits_call call reply then row_of_reply job reply before else Returns outcomes.Denied
 next_after job (Returns outcome) given before = Returns outcome
 
 -- what a task does next, by all that it was given, the newest first

@@ -21,7 +21,7 @@ ghost use Rattle.vme_master.specs.declared.job.Job.{Job};
 ghost use Rattle.vme_master.specs.declared.job.Job.TheVariants.{Bus, Local};
 ghost use Rattle.vme_master.specs.declared.outcome.Outcome.{Outcome};
 ghost use Rattle.vme_master.specs.declared.outcome.Outcome.TheVariants.{Denied};
-ghost use Rattle.vme_master.specs.Jobs.{bus_job, local_call, fits, error_outcome};
+ghost use Rattle.vme_master.specs.Jobs.{bus_job, local_call, fits_call, error_outcome};
 ghost use Rattle.vme_master.specs.Tables.{Inputs, next_of};
 ghost use Rattle.vme_master.specs.Machine.{task_given, to_do};
 ghost use Rattle.vme_master.specs.Laws.{last_arb_reply, IsNextDatum, IsBelow};
@@ -33,7 +33,7 @@ ghost use Rattle.vme_master.specs.Laws.{last_arb_reply, IsNextDatum, IsBelow};
 pub fn tasks_go_by_the_table()
     ensures table { (job : Job) (given : Inputs) → to_do (task_given job given) ≡ next_of job given }
     ensures misfit { (job : Job) (given : Inputs) (call : Call) (reply : EventReply) →
-        next_of job given ≡ Invokes call → fits call reply ≡ false →
+        next_of job given ≡ Invokes call → fits_call call reply ≡ false →
         next_of job (Some reply ∷ given) ≡ Returns Denied }
     ensures absent { (job : Job) (given : Inputs) (call : Call) →
         next_of job given ≡ Invokes call → next_of job (None ∷ given) ≡ Returns Denied }
@@ -93,7 +93,7 @@ pub fn transfers_keep_their_tenure()
 /// States that every reply of a board or of the arbiter fits its command.
 pub fn replies_fit()
     ensures board { (memory : Board) (board : ℕ) (command : Option Command) →
-        IsTrue (fits (OnBoard board command) (replies.Board (command_step memory command).1)) }
+        IsTrue (fits_call (OnBoard board command) (replies.Board (command_step memory command).1)) }
     ensures bus { (bus : Arbitration) (cmd : ArbCmd) →
-        IsTrue (fits (OnBus cmd) (replies.Bus (arbiter_step bus cmd).1)) }
+        IsTrue (fits_call (OnBus cmd) (replies.Bus (arbiter_step bus cmd).1)) }
 {}

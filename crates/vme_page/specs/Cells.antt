@@ -27,7 +27,8 @@ number_or before (Some (Grants bits)) = number_of before
 
 -- the address modifier that a cell names: that of the transfer that begins in it, or else the one before
 abbrev pub modifier_of : Cell → List Change → ℕ
-modifier_of cell changes = number_or cell.levels.address_modifier (first_value cell.window (code_of AddressModifier) changes) % 256
+modifier_of cell changes =
+    number_or cell.levels.address_modifier (first_value cell.window (code_of AddressModifier) changes) % 256
 
 -- a line of the bus
 abbrev pub bus_row : Variable → Value → Style → ℕ → Row

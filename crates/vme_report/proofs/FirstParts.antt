@@ -5,7 +5,7 @@ use Rattle.std.specs.List.{flat_map, range_with_len}
 use Rattle.vme_shared.specs.declared.reply.LineReply.{LineReply}
 use Rattle.vme_memory.specs.Boards.{zeros}
 use Rattle.vme_script.specs.ReplyTexts.{line_text}
-use Rattle.vme_report.specs.Texts.{replies_text, row, row_text, row_count}
+use Rattle.vme_report.specs.Texts.{replies_text, dump_row, row_text, row_count}
 
 -- the text of the items from item i on begins with the text of item i
 pub item_first :
@@ -29,12 +29,12 @@ number_first f i n within = ap (λ k. flat_map f (range_with_len i k)) one_more
 
 -- the text of the rows of a memory from row i on begins with the text of row i
 pub row_first :
-    (slot i : ℕ) (bytes own : List ℕ) → i < row_count bytes → own ≡ row bytes i
-    → flat_map (λ k. row_text slot (16 * k) (row bytes k)) (range_with_len i (row_count bytes - i))
-    ≡ row_text slot (16 * i) own ++ flat_map (λ k. row_text slot (16 * k) (row bytes k)) (range_with_len (i + 1) (row_count bytes - (i + 1)))
+    (slot i : ℕ) (bytes own : List ℕ) → i < row_count bytes → own ≡ dump_row bytes i
+    → flat_map (λ k. row_text slot (16 * k) (dump_row bytes k)) (range_with_len i (row_count bytes - i))
+    ≡ row_text slot (16 * i) own ++ flat_map (λ k. row_text slot (16 * k) (dump_row bytes k)) (range_with_len (i + 1) (row_count bytes - (i + 1)))
 row_first slot i bytes own within is =
-    number_first (λ k. row_text slot (16 * k) (row bytes k)) i (row_count bytes) within
-    ∙ ap (λ r. row_text slot (16 * i) r ++ flat_map (λ k. row_text slot (16 * k) (row bytes k)) (range_with_len (i + 1) (row_count bytes - (i + 1)))) (sym is)
+    number_first (λ k. row_text slot (16 * k) (dump_row bytes k)) i (row_count bytes) within
+    ∙ ap (λ r. row_text slot (16 * i) r ++ flat_map (λ k. row_text slot (16 * k) (dump_row bytes k)) (range_with_len (i + 1) (row_count bytes - (i + 1)))) (sym is)
 
 -- sixteen zero bytes have no text
 pub blank_row : (slot offset : ℕ) (own : List ℕ) → own ≡ zeros 16 → row_text slot offset own ≡ []

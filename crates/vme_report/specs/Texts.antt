@@ -23,18 +23,18 @@ counts_text slot steps made =
 
 -- whether all bytes are zero
 abbrev pub is_blank : List ℕ → Bool
-is_blank row = list_all (λ byte. byte == 0) row
+is_blank dump_row = list_all (λ byte. byte == 0) dump_row
 
 -- a row of memory from an offset on; nothing if it is all zero
 unfoldable pub row_text : ℕ → ℕ → List ℕ → List ℕ
-row_text slot offset row =
-    if is_blank row then []
+row_text slot offset dump_row =
+    if is_blank dump_row then []
     else output_line (codes "mem " ++ (decimal slot ++ (codes " "
-    ++ (hex_text (to_be_bytes w32 offset) ++ (codes " " ++ hex_text row)))))
+    ++ (hex_text (to_be_bytes w32 offset) ++ (codes " " ++ hex_text dump_row)))))
 
 -- row i of a memory: sixteen bytes, or fewer in the last row
-abbrev pub row : List ℕ → ℕ → List ℕ
-row bytes i = take 16 (drop (16 * i) bytes)
+abbrev pub dump_row : List ℕ → ℕ → List ℕ
+dump_row bytes i = take 16 (drop (16 * i) bytes)
 
 -- the number of rows of a memory
 abbrev pub row_count : List ℕ → ℕ
@@ -42,4 +42,4 @@ row_count bytes = (length bytes + 15) / 16
 
 -- the rows of a memory, in order
 abbrev pub memory_text : ℕ → List ℕ → List ℕ
-memory_text slot bytes = flat_map (λ i. row_text slot (16 * i) (row bytes i)) (range_with_len 0 (row_count bytes))
+memory_text slot bytes = flat_map (λ i. row_text slot (16 * i) (dump_row bytes i)) (range_with_len 0 (row_count bytes))

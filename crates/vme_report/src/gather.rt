@@ -4,7 +4,7 @@ ghost use Rattle.vme_io.specs.Prefixes.{GathersOrStops};
 ghost use Rattle.vme_script.specs.ReplyTexts.{line_text};
 ghost use Rattle.vme_report.specs.Ends.{IsReportFault, is_write_end};
 ghost use Rattle.vme_report.specs.Boards.{BoardText};
-ghost use Rattle.vme_report.specs.Texts.{counts_text, row_text, row, replies_text, memory_text};
+ghost use Rattle.vme_report.specs.Texts.{counts_text, row_text, dump_row, replies_text, memory_text};
 ghost use Rattle.vme_report.specs.Reports.{part_text};
 
 use crate::board::BoardReportRef;

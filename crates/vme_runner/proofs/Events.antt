@@ -40,7 +40,7 @@ use Rattle.vme_shared.specs.declared.request.SharedRequest.{SharedRequest}
 use Rattle.vme_shared.specs.declared.request.SharedRequest.TheVariants as asked_shared
 use Rattle.vme_shared.specs.declared.stage.Stage.{Stage}
 use Rattle.vme_shared.specs.Mailboxes.{stage_request, shared_refusal}
-use Rattle.vme_shared.specs.Tables.{SharedJob, Progress, At, Over, transfer_job as shared_transfer, stage_job, progress_of, next_at, shared_next}
+use Rattle.vme_shared.specs.Tables.{SharedJob, Progress, At, Over, checked_job as shared_transfer, stage_job, progress_of, next_at, shared_next}
 use Rattle.vme_shared.proofs.lemmas.Tenures.{shown_makes}
 use Rattle.vme_line_task.specs.Scripts.{Attempt, Transferring, Awaiting, Sharing, slot_at, level_at, mailbox_at, transfer_job, request_attempt, unless_refused, shared_job, line_attempt}
 use Rattle.vme_line_task.specs.Tables.{attempt_next, attempts_of, lawful_next, next_given}

@@ -1,5 +1,5 @@
 -- Between two data of a line that requests a transfer, all its transitions move data over the bus.
-use Rattle.std.proofs.Common.{◌≡◌, ℕ, false, List, [], ◌∷◌, ◌++◌, map, Some, Result, Ok, Err, refl, ap, sym, subst, ◌∙◌, append_assoc}
+use Rattle.std.proofs.Common.{◌≡◌, ℕ, List, [], ◌∷◌, ◌++◌, map, Some, Result, Ok, Err, refl, ap, sym, subst, ◌∙◌, append_assoc}
 use Rattle.std.specs.Prelude.{All}
 use Rattle.std.proofs.lemmas.List.Elements.{All-nil, All-cons}
 use Rattle.vme_cycle.specs.declared.fault.CycleFault.{CycleFault}
@@ -12,7 +12,7 @@ use Rattle.vme_memory.specs.Data.{datum_command}
 use Rattle.vme_core.specs.declared.event.EventReply.{EventReply}
 use Rattle.vme_core.specs.Calls.{Call, OnBoard, OnBus, call_of}
 use Rattle.vme_core.specs.Runs.{Transition}
-use Rattle.vme_core.specs.NextSteps.{NextStep, NotStarted, Invokes, Returns}
+use Rattle.vme_core.specs.NextSteps.{NextStep, Invokes, Returns}
 use Rattle.vme_master.specs.declared.job.BusJob.{BusJob}
 use Rattle.vme_master.specs.declared.job.Job.{Job}
 use Rattle.vme_master.specs.declared.job.Job.TheVariants as jobs
@@ -25,27 +25,15 @@ use Rattle.vme_grammar.specs.declared.line.Line.{Line}
 use Rattle.vme_grammar.specs.declared.line.Line.TheVariants as lines
 use Rattle.vme_script.specs.Boards.{entries_of}
 use Rattle.vme_script.specs.Configurations.{Configuration}
-use Rattle.vme_line_task.specs.Scripts.{Transferring, slot_at, level_at}
-use Rattle.vme_line_task.specs.Tables.{transferring_next, attempts_of, next_wants_retry, next_given, line_next, given_of}
+use Rattle.vme_line_task.specs.Scripts.{slot_at, level_at}
+use Rattle.vme_line_task.specs.Tables.{transferring_next, next_given, line_next, given_of}
 use Rattle.vme_line_task.specs.Tenures.{IsLocal}
 use Rattle.vme_line_task.specs.Traces.{Continues}
 use Rattle.vme_line_task.proofs.lemmas.Below.{transferring_makes}
+use Rattle.vme_line_task.proofs.lemmas.Once.{all_given}
 use Rattle.vme_runner.specs.OrderLaws.{IsOverBus, MovesData}
 use Rattle.vme_runner.specs.TransferTenures.{CallsBoard}
 use Rattle.vme_runner.proofs.OneAfterAnother.{at_datum}
-
--- the outcome of a transfer never asks for another attempt
-attempted_once : (next : NextStep Outcome) → next_wants_retry (transferring_next next) ≡ false
-attempted_once NotStarted = refl
-attempted_once (Invokes call) = refl
-attempted_once (Returns outcome) = refl
-
--- all replies to a transfer are replies to its one attempt
-all_given : (job : Job) (tries : ℕ) (given : Inputs) → (attempts_of (Transferring job) tries given).given ≡ given
-all_given job tries [] = refl
-all_given job tries (last ∷ before) =
-    rw (attempted_once (next_of job (last ∷ (attempts_of (Transferring job) tries before).given)))
-    (ap (λ (g : Inputs). last ∷ g) (all_given job tries before))
 
 -- the command of a datum is none of the local port
 not_local : (request : Request) (i at : ℕ) → IsLocal (Some (datum_command request i at)) → ⊥

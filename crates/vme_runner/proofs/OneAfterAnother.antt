@@ -15,7 +15,7 @@ use Rattle.vme_core.specs.NextSteps.{NextStep, NotStarted, Invokes, Returns}
 use Rattle.vme_master.specs.declared.job.BusJob.{BusJob}
 use Rattle.vme_master.specs.declared.job.Job.TheVariants.{Bus}
 use Rattle.vme_master.specs.declared.outcome.Outcome.{Outcome}
-use Rattle.vme_master.specs.Jobs.{datum_call, fits}
+use Rattle.vme_master.specs.Jobs.{datum_call, fits_call}
 use Rattle.vme_master.specs.Tables.{Inputs, datum_or_done, bus_row, next_after, next_of}
 use Rattle.vme_runner.specs.TransferTenures.{CallsBoard, AnswersDatum}
 
@@ -69,7 +69,7 @@ datum_step : (j : BusJob) (g : Inputs) (next : NextStep Outcome) (last : Option 
 datum_step j g (Invokes (OnBoard place command)) None at = inr tt
 datum_step j g (Invokes (OnBoard place command)) (Some (replies.Bus reply)) at = inr tt
 datum_step j g (Invokes (OnBoard place command)) (Some (replies.Board reply)) at =
-    elim (cases_Bool (fits (OnBoard place command) (replies.Board reply))) [
+    elim (cases_Bool (fits_call (OnBoard place command) (replies.Board reply))) [
       | inl fit ↦ rw fit (row_from j g reply)
       | inr misfit ↦ rw misfit (inr tt)
     ]

@@ -45,7 +45,8 @@ pub record IsOfLine (who : ℕ) (earlier own before : List Transition) (m : Tran
 
 -- between two transitions of a processor that move data over the bus, with `before` and `m` up to the first of them: all that
 -- the processor does is move data over the bus, no other processor does so, and its slot holds the bus throughout
-pub record IsOneTenure (config : Configuration) (who : ℕ) (before : List Transition) (m : Transition) (between : List Transition) :
+pub record IsOneTenure (config : Configuration) (who : ℕ) (before : List Transition) (m : Transition)
+    (between : List Transition) :
     Type 0 where
   pub own : All (λ o. o.who ≡ who → MovesData o) between
   pub others : All (λ o. MovesData o → o.who ≡ who) between

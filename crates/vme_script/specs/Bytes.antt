@@ -28,17 +28,17 @@ unfoldable pub request_bytes : List Entry → Request → Option BoardRange
 request_bytes entries request = transfer_bytes entries (transfer_of request)
 
 -- the bytes of a command to the local port of a board
-abbrev pub local_bytes : ℕ → BoardCmd → Option BoardRange
-local_bytes board (LocalRead offset n) = Some (record { board = board; offset = offset; len = n })
-local_bytes board (LocalWrite offset bytes) = Some (record { board = board; offset = offset; len = length bytes.items })
-local_bytes board (LocalModify offset n f) = Some (record { board = board; offset = offset; len = n })
-local_bytes board (Cycle signals at f) = None
+abbrev pub local_range : ℕ → BoardCmd → Option BoardRange
+local_range board (LocalRead offset n) = Some (record { board = board; offset = offset; len = n })
+local_range board (LocalWrite offset bytes) = Some (record { board = board; offset = offset; len = length bytes.items })
+local_range board (LocalModify offset n f) = Some (record { board = board; offset = offset; len = n })
+local_range board (Cycle signals at f) = None
 
 -- the bytes that a line of a board's processor accesses: a wait, a lock and an unlock access those of their transfers;
 -- a put and a take name a mailbox and count as no bytes
 abbrev pub line_bytes : List Entry → ℕ → Line → Option BoardRange
 line_bytes entries board (Bus request) = request_bytes entries request
-line_bytes entries board (Local command) = local_bytes board command
+line_bytes entries board (Local command) = local_range board command
 line_bytes entries board (Await am addr bytes) = request_bytes entries (requests.Read am addr (length bytes.items))
 line_bytes entries board (Lock am addr) = request_bytes entries (set_lock am addr)
 line_bytes entries board (Unlock am addr) = request_bytes entries (clear_lock am addr)

@@ -42,14 +42,14 @@ refusal_of rules line =
     if may_name (boxes_of rules) line then (if touches rules line then Some MailboxBytes else None) else Some BadNumber
 
 -- a line, or its refusal if it has one
-abbrev pub unless_refused : Option LineFault → Line → Result (Option Line) LineFault
-unless_refused None line = Ok (Some line)
-unless_refused (Some fault) line = Err fault
+abbrev pub line_unless_refused : Option LineFault → Line → Result (Option Line) LineFault
+line_unless_refused None line = Ok (Some line)
+line_unless_refused (Some fault) line = Err fault
 
 -- the result of reading a line, if the context allows the line
 abbrev pub asked_within : ScriptContext → Result (Option Line) LineFault → Result (Option Line) LineFault
 asked_within rules (Ok None) = Ok None
-asked_within rules (Ok (Some line)) = unless_refused (refusal_of rules line) line
+asked_within rules (Ok (Some line)) = line_unless_refused (refusal_of rules line) line
 asked_within rules (Err fault) = Err fault
 
 -- a text as a line in a context: the refusals of the context come last

@@ -2,7 +2,7 @@
 ghost use Rattle.std.specs.Prelude.{◌≡◌, length};
 ghost use Rattle.vme_cycle.specs.declared.request.Request.TheVariants.{Read};
 ghost use Rattle.vme_shared.specs.Mailboxes.{set_lock, clear_lock};
-ghost use Rattle.vme_script.specs.Bytes.{request_bytes, local_bytes, line_bytes};
+ghost use Rattle.vme_script.specs.Bytes.{request_bytes, local_range, line_bytes};
 
 use crate::board_range::BoardRange;
 use vme_cycle::{Modify, Plan, Request};
@@ -49,8 +49,8 @@ fn unlock_bytes(map: &AddressMap, am: u8, addr: u32) -> Option<BoardRange>
 }
 
 /// The bytes of a command to the local port of a board.
-fn local_bytes(board: usize, command: &BoardCmd) -> Option<BoardRange>
-    ensures { result ≡ local_bytes board command.now }
+fn local_range(board: usize, command: &BoardCmd) -> Option<BoardRange>
+    ensures { result ≡ local_range board command.now }
 {
     let (offset, len) = match command {
         BoardCmd::LocalRead { offset, n } | BoardCmd::LocalModify { offset, n, .. } => {
@@ -69,7 +69,7 @@ pub fn line_bytes(map: &AddressMap, board: usize, line: &Line) -> Option<BoardRa
 {
     match line {
         Line::Bus(request) => request_bytes(map, request),
-        Line::Local(command) => local_bytes(board, command),
+        Line::Local(command) => local_range(board, command),
         Line::Await { am, addr, bytes } => await_bytes(map, *am, *addr, bytes),
         Line::Lock { am, addr } => lock_bytes(map, *am, *addr),
         Line::Unlock { am, addr } => unlock_bytes(map, *am, *addr),

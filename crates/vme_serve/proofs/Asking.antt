@@ -11,7 +11,7 @@ use Rattle.vme_grammar.specs.Grammar.{line_of}
 use Rattle.vme_script.specs.declared.board.BoardConfig.{BoardConfig}
 use Rattle.vme_script.specs.Boards.{entries_of}
 use Rattle.vme_script.specs.Configurations.{Configuration}
-use Rattle.vme_script.specs.Contexts.{boxes_of, refusal_of, unless_refused, asked_within, line_within}
+use Rattle.vme_script.specs.Contexts.{boxes_of, refusal_of, line_unless_refused, asked_within, line_within}
 use Rattle.vme_script.specs.Lawful.{IsLawful}
 use Rattle.vme_script.specs.MailboxNumbers.{may_name}
 use Rattle.vme_script.specs.Scripts.{rules_of}
@@ -47,7 +47,7 @@ accepted config lawful board line none =
       | inr not_may ↦ absurd (let bad = simp not_may at none in cc)
     ]
 
-no_refusal : (line found : Line) (refusal : Option LineFault) → unless_refused refusal found ≡ Ok (Some line) → (refusal ≡ None) × (found ≡ line)
+no_refusal : (line found : Line) (refusal : Option LineFault) → line_unless_refused refusal found ≡ Ok (Some line) → (refusal ≡ None) × (found ≡ line)
 no_refusal line found None is = (refl, cc is)
 no_refusal line found (Some fault) is = absurd (cc is)
 

@@ -5,7 +5,7 @@ use Rattle.vme_core.specs.Calls.{Call}
 use Rattle.vme_core.specs.NextSteps.{Invokes, Returns}
 use Rattle.vme_master.specs.declared.job.Job.{Job}
 use Rattle.vme_master.specs.declared.outcome.Outcome.TheVariants as outcomes
-use Rattle.vme_master.specs.Jobs.{bus_job, fits}
+use Rattle.vme_master.specs.Jobs.{bus_job, fits_call}
 use Rattle.vme_master.specs.Tables.{Inputs, next_of}
 use Rattle.vme_shared.specs.declared.outcome.SharedOutcome.TheVariants as shared
 use Rattle.vme_shared.specs.declared.request.SharedRequest.{SharedRequest}
@@ -15,7 +15,7 @@ use Rattle.vme_shared.specs.declared.stage.Stage.TheVariants.{Locks, ReadsPutCou
 use Rattle.vme_shared.specs.declared.stage.StageResult.TheVariants.{Finish}
 use Rattle.vme_shared.specs.Mailboxes.{shared_refusal}
 use Rattle.vme_shared.specs.Steps.{first_stage, mailbox_step, step_after}
-use Rattle.vme_shared.specs.Tables.{SharedJob, Progress, At, Over, transfer_job, stage_begun, step_begun, progress_by, progress_given, progress_of, next_at, shared_next}
+use Rattle.vme_shared.specs.Tables.{SharedJob, Progress, At, Over, checked_job, stage_begun, step_begun, progress_by, progress_given, progress_of, next_at, shared_next}
 use Rattle.vme_shared.proofs.lemmas.Starts.{first_lawful}
 use Rattle.vme_shared.proofs.lemmas.Tenures.{shown_makes}
 
@@ -44,7 +44,7 @@ task_denied s stage job given last ends =
     ap (λ next. next_at (progress_by s stage job (last ∷ given) next)) ends ∙ ap (λ step. next_at (step_begun s step)) (step_denied s.request stage)
 
 -- at each progress a reply that does not fit the call ends the task with a denial
-misfit_at : (s : SharedJob) (p : Progress) (call : Call) (reply : EventReply) → next_at p ≡ Invokes call → fits call reply ≡ false
+misfit_at : (s : SharedJob) (p : Progress) (call : Call) (reply : EventReply) → next_at p ≡ Invokes call → fits_call call reply ≡ false
     → next_at (progress_given s (Some reply) p) ≡ Returns shared.Denied
 misfit_at s (At stage job given) call reply made misfit =
     let task : next_of job given ≡ Invokes call = shown_makes (next_of job given) call made in
@@ -52,7 +52,7 @@ misfit_at s (At stage job given) call reply made misfit =
 misfit_at s (Over end) call reply made misfit = absurd cc
 
 -- a reply that does not fit the call ends the task with a denial
-pub misfit_denied : (s : SharedJob) (g : Inputs) (call : Call) (reply : EventReply) → shared_next s g ≡ Invokes call → fits call reply ≡ false
+pub misfit_denied : (s : SharedJob) (g : Inputs) (call : Call) (reply : EventReply) → shared_next s g ≡ Invokes call → fits_call call reply ≡ false
     → shared_next s (Some reply ∷ g) ≡ Returns shared.Denied
 misfit_denied s g call reply made misfit = misfit_at s (progress_of s g) call reply made misfit
 
@@ -71,5 +71,5 @@ absent_denied s g call made = absent_at s (progress_of s g) call made
 pub early_denied : (s : SharedJob) (reply : EventReply) → shared_refusal s.request ≡ None → shared_next s (Some reply ∷ []) ≡ Returns shared.Denied
 early_denied s reply none =
     let one = first_lawful s.request none in
-    ap (λ job. next_at (progress_given s (Some reply) (stage_begun (first_stage s.request) [] job))) (ap (transfer_job s) one.1)
+    ap (λ job. next_at (progress_given s (Some reply) (stage_begun (first_stage s.request) [] job))) (ap (checked_job s) one.1)
     ∙ task_denied s (first_stage s.request) (bus_job s.map s.slot s.level one.0) [] (Some reply) refl

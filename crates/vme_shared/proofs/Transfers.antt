@@ -22,7 +22,7 @@ use Rattle.vme_master.specs.declared.job.BusJob.{BusJob}
 use Rattle.vme_master.specs.declared.job.Job.TheVariants.{Bus}
 use Rattle.vme_master.specs.declared.outcome.Outcome.{Outcome}
 use Rattle.vme_master.specs.declared.outcome.Outcome.TheVariants as outcomes
-use Rattle.vme_master.specs.Jobs.{datum_call, fits, request_expected, expected_outcome}
+use Rattle.vme_master.specs.Jobs.{datum_call, fits_call, request_expected, expected_outcome}
 use Rattle.vme_master.specs.Tables.{Inputs, data_in, bytes_in, datum_or_done, outcome_by, bus_row, next_after, next_of}
 use Rattle.vme_master.specs.Machine.{expected_len}
 use Rattle.vme_master.proofs.lemmas.Expected.{datum_len_wanted}
@@ -46,7 +46,7 @@ row_granted j g (replies.Board Berr) outcome good row = λ denied. absurd cc
 
 -- after a reply that fits and is no denial, the outcome is no denial
 pub good_end : (j : BusJob) (g : Inputs) (call : Call) (reply : EventReply) (outcome : Outcome) → next_of (Bus j) g ≡ Invokes call
-    → fits call reply ≡ true → reply ≢ replies.Bus arb_replies.Denied → next_of (Bus j) (Some reply ∷ g) ≡ Returns outcome → outcome ≢ outcomes.Denied
+    → fits_call call reply ≡ true → reply ≢ replies.Bus arb_replies.Denied → next_of (Bus j) (Some reply ∷ g) ≡ Returns outcome → outcome ≢ outcomes.Denied
 good_end j g call reply outcome made fit good ends = row_granted j g reply outcome good (let after = rw (made, fit) at ends in after)
 
 -- an outcome has as many bytes as are expected
@@ -166,7 +166,7 @@ step_formed j g (Invokes (OnBus (arb_commands.Done slot))) (Some (replies.Bus ar
 step_formed j g (Invokes (OnBus cmd)) (Some (replies.Board reply)) single formed = denied_formed (request_expected j.transfer.request)
 step_formed j g (Invokes (OnBoard board command)) (Some (replies.Bus reply)) single formed = denied_formed (request_expected j.transfer.request)
 step_formed j g (Invokes (OnBoard board command)) (Some (replies.Board reply)) single formed =
-    elim (cases_Bool (fits (OnBoard board command) (replies.Board reply))) [
+    elim (cases_Bool (fits_call (OnBoard board command) (replies.Board reply))) [
       | inl fit ↦ rw fit (board_formed j g board command reply single formed fit)
       | inr misfit ↦ rw misfit (denied_formed (request_expected j.transfer.request))
     ]

@@ -67,7 +67,8 @@ mailbox_step request (ReadsTakeCount p) (outcomes.Read bytes) =
     on_word (word_in bytes.items) (λ t. Continue (counted_stage request p t))
 mailbox_step request (WritesWord p word) outcomes.Done = Continue (RaisesPutCount p)
 mailbox_step request (RaisesPutCount p) outcomes.Done = Continue (Unlocks shared.Put)
-mailbox_step request (ReadsWord t) (outcomes.Read bytes) = on_word (word_in bytes.items) (λ word. Continue (RaisesTakeCount t word))
+mailbox_step request (ReadsWord t) (outcomes.Read bytes) =
+    on_word (word_in bytes.items) (λ word. Continue (RaisesTakeCount t word))
 mailbox_step request (RaisesTakeCount t word) outcomes.Done = Continue (Unlocks (shared.Took word))
 mailbox_step request (Unlocks end) outcome = unlock_step end outcome
 mailbox_step request Locks (outcomes.Berr count bytes) = Finish shared.Berr

@@ -28,13 +28,13 @@ pub record SharedJob : Type 0 where
   pub request : SharedRequest
 
 -- the bus job of a transfer, or the refusal of the transfer
-abbrev pub transfer_job : SharedJob → Result Transfer CycleFault → Result Job CycleFault
-transfer_job s (Ok t) = Ok (bus_job s.map s.slot s.level t)
-transfer_job s (Err fault) = Err fault
+abbrev pub checked_job : SharedJob → Result Transfer CycleFault → Result Job CycleFault
+checked_job s (Ok t) = Ok (bus_job s.map s.slot s.level t)
+checked_job s (Err fault) = Err fault
 
 -- the bus job of a stage's transfer, or the refusal of the transfer
 abbrev pub stage_job : SharedJob → Stage → Result Job CycleFault
-stage_job s stage = transfer_job s (transfer_of (stage_request s.request stage))
+stage_job s stage = checked_job s (transfer_of (stage_request s.request stage))
 
 -- how far the task has come: the current stage, with its bus job and what that was given, the newest first; or the end
 pub data Progress : Type 0 where

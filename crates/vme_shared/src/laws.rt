@@ -13,7 +13,7 @@ ghost use Rattle.vme_core.specs.declared.event.EventReply.TheVariants as replies
 ghost use Rattle.vme_core.specs.Calls.{Call, OnBoard, OnBus};
 ghost use Rattle.vme_core.specs.NextSteps.{NotStarted, Invokes, Returns};
 ghost use Rattle.vme_master.specs.declared.job.Job.{Job};
-ghost use Rattle.vme_master.specs.Jobs.{fits};
+ghost use Rattle.vme_master.specs.Jobs.{fits_call};
 ghost use Rattle.vme_master.specs.Tables.{Inputs};
 ghost use Rattle.vme_shared.specs.declared.outcome.SharedOutcome.{SharedOutcome};
 ghost use Rattle.vme_shared.specs.declared.outcome.SharedOutcome.TheVariants.{Denied};
@@ -29,7 +29,7 @@ pub fn shared_tasks_go_by_the_table()
     ensures table { (s : SharedJob) (given : Inputs) →
         shared_to_do (shared_given s given) ≡ shared_next s given }
     ensures misfit { (s : SharedJob) (given : Inputs) (call : Call) (reply : EventReply) →
-        shared_next s given ≡ Invokes call → fits call reply ≡ false →
+        shared_next s given ≡ Invokes call → fits_call call reply ≡ false →
         shared_next s (Some reply ∷ given) ≡ Returns Denied }
     ensures absent { (s : SharedJob) (given : Inputs) (call : Call) →
         shared_next s given ≡ Invokes call → shared_next s (None ∷ given) ≡ Returns Denied }
@@ -71,17 +71,17 @@ pub fn shared_tasks_keep_their_tenure()
         shared_arb_reply s given ≡ Some arb_replies.Granted }
     ensures slot_state { (s : SharedJob) (given : Inputs) (cmd : ArbCmd) (reply : ArbReply)
         (bus : Arbitration) (slot : ℕ) → shared_next s given ≡ Invokes (OnBus cmd) →
-        IsTrue (fits (OnBus cmd) (replies.Bus reply)) → replies.Bus reply ≢ replies.Bus arb_replies.Denied →
+        IsTrue (fits_call (OnBus cmd) (replies.Bus reply)) → replies.Bus reply ≢ replies.Bus arb_replies.Denied →
         MatchesReply bus slot (Some reply) →
         MatchesReply bus slot (shared_arb_reply s (Some (replies.Bus reply) ∷ given)) }
     ensures datum { (s : SharedJob) (given : Inputs) (call : Call) (reply : Reply) →
-        shared_next s given ≡ Invokes call → IsTrue (fits call (replies.Board reply)) →
+        shared_next s given ≡ Invokes call → IsTrue (fits_call call (replies.Board reply)) →
         shared_arb_reply s (Some (replies.Board reply) ∷ given) ≡ shared_arb_reply s given }
     ensures granted { (s : SharedJob) (given : Inputs) (call : Call) (reply : EventReply) →
-        shared_next s given ≡ Invokes call → IsTrue (fits call reply) →
+        shared_next s given ≡ Invokes call → IsTrue (fits_call call reply) →
         reply ≢ replies.Bus arb_replies.Denied → shared_next s (Some reply ∷ given) ≢ Returns Denied }
     ensures freed { (s : SharedJob) (given : Inputs) (call : Call) (reply : EventReply)
-        (end : SharedOutcome) → shared_next s given ≡ Invokes call → IsTrue (fits call reply) →
+        (end : SharedOutcome) → shared_next s given ≡ Invokes call → IsTrue (fits_call call reply) →
         reply ≢ replies.Bus arb_replies.Denied → shared_next s (Some reply ∷ given) ≡ Returns end →
         (reply ≡ replies.Bus arb_replies.Freed) × (shared_arb_reply s (Some reply ∷ given) ≡ None) }
 {}

@@ -1,7 +1,7 @@
 //! A file as its split file.
 ghost use Rattle.std.specs.Prelude.{◌≡◌, IfOk};
 ghost use Rattle.vme_script.specs.Configurations.{Configuration};
-ghost use Rattle.vme_split.specs.Files.{Configures};
+ghost use Rattle.vme_engines.specs.Files.{Configures};
 
 use crate::fault::SplitFault;
 use crate::form::{Reason, SplitForm};

@@ -16,7 +16,8 @@ use Rattle.vme_stepper.specs.Steppers.{ProcessorView, StepperView, processor_ans
 
 -- a processor with this task at work
 abbrev pub processor_at : ProcessorView → LineTask → ProcessorView
-processor_at processor task = record { script = processor.script; lines = processor.lines; ended = processor.ended; at = Some task }
+processor_at processor task =
+    record { script = processor.script; lines = processor.lines; ended = processor.ended; at = Some task }
 
 -- a processor with a task of its next line: if the line has ended its reply is recorded and the lines after it follow,
 -- else the task is at work

@@ -30,7 +30,8 @@ text_of_board board script c counted = record {
 }
 
 -- the report's entries for boards, in order of slots
-abbrev pub texts_of_boards : List BoardConfig → List (List ScriptLine) → List ScriptState → List (CountedState Board) → List BoardText
+abbrev pub texts_of_boards : List BoardConfig → List (List ScriptLine) → List ScriptState → List (CountedState Board)
+    → List BoardText
 texts_of_boards (board ∷ boards) (script ∷ scripts) (c ∷ script_states) (counted ∷ counted_states) =
     text_of_board board script c counted ∷ texts_of_boards boards scripts script_states counted_states
 texts_of_boards boards scripts script_states counted_states = []

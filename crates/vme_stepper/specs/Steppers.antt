@@ -58,7 +58,8 @@ processor_answered processor answer = record {
 -- a processor with a task of its current line: if the line has ended its reply is recorded, else the task is kept
 abbrev pub processor_settled : ProcessorView → LineTask → NextStep LineReply → ProcessorView
 processor_settled processor task (Returns answer) = processor_answered processor answer
-processor_settled processor task next = record { script = processor.script; lines = processor.lines; ended = processor.ended; at = Some task }
+processor_settled processor task next =
+    record { script = processor.script; lines = processor.lines; ended = processor.ended; at = Some task }
 
 -- a task of the next line makes its call and advances by the reply
 abbrev pub processor_called : Machine → ℕ → ProcessorView → LineTask → Call → Machine × ProcessorView
@@ -68,7 +69,8 @@ processor_called machine board processor task call =
     (step.0, processor_settled processor next (line_to_do next))
 
 -- a turn by the next step of a task: it makes its call, or the reply of its line is recorded and the next lines go on
-abbrev pub processor_turn_by : Machine → ℕ → ProcessorView → LineTask → NextStep LineReply → (ProcessorView → Machine × ProcessorView) → Machine × ProcessorView
+abbrev pub processor_turn_by : Machine → ℕ → ProcessorView → LineTask → NextStep LineReply
+    → (ProcessorView → Machine × ProcessorView) → Machine × ProcessorView
 processor_turn_by machine board processor task (Invokes call) after = processor_called machine board processor task call
 processor_turn_by machine board processor task (Returns answer) after = after (processor_answered processor answer)
 processor_turn_by machine board processor task next after = (machine, processor)
@@ -91,7 +93,8 @@ lines_turn config board (line ∷ lines) machine processor =
 
 -- a turn of a processor
 abbrev pub processor_turn : Configuration → ℕ → Machine → ProcessorView → Machine × ProcessorView
-processor_turn config board machine processor = lines_turn config board (drop processor.ended (lines_at config board)) machine processor
+processor_turn config board machine processor =
+    lines_turn config board (drop processor.ended (lines_at config board)) machine processor
 
 -- a turn of a processor in the stepper, if there is one
 abbrev pub stepper_turned : Configuration → StepperView → ℕ → Option ProcessorView → StepperView
@@ -112,7 +115,13 @@ stepper_turn_at config stepper (Some board) = stepper_turn config stepper board
 -- the report's entries for boards, by their processors
 abbrev pub texts_of_processors : List BoardConfig → List ProcessorView → List (CountedState Board) → List BoardText
 texts_of_processors (board ∷ boards) (processor ∷ processors) (counted ∷ counted_states) =
-    record { slot = board.slot; lines = processor.lines; bytes = counted.object.bytes; steps = counted.steps; made = counted.made }
+    record {
+      slot = board.slot;
+      lines = processor.lines;
+      bytes = counted.object.bytes;
+      steps = counted.steps;
+      made = counted.made;
+    }
     ∷ texts_of_processors boards processors counted_states
 texts_of_processors boards processors counted_states = []
 
@@ -153,7 +162,8 @@ pub record IsStepperOf (config : Configuration) (stepper : StepperView) : Type 0
   pub boards : length stepper.machine.boards ≡ length config.boards
   pub process_count : process_count stepper.machine ≡ length config.boards
   pub count : length stepper.processors ≡ length config.boards
-  pub each : (b : ℕ) (processor : ProcessorView) → slice_get stepper.processors b ≡ Some processor → IsProcessorOf config b processor
+  pub each : (b : ℕ) (processor : ProcessorView) → slice_get stepper.processors b ≡ Some processor
+      → IsProcessorOf config b processor
 
 -- no object has made more than n steps
 pub record StepsWithin (n : ℕ) (machine : Machine) : Type 0 where

@@ -37,7 +37,8 @@ call_made config board line machine c call =
 
 -- a turn by the next step of the current line: it makes its call, or its reply is recorded and the next lines go on;
 -- nothing happens with `NotStarted`, which is never the value of `line_next`
-abbrev pub turn_by : Configuration → ℕ → Line → Machine → ScriptState → NextStep LineReply → (ScriptState → Machine × ScriptState) → Machine × ScriptState
+abbrev pub turn_by : Configuration → ℕ → Line → Machine → ScriptState → NextStep LineReply
+    → (ScriptState → Machine × ScriptState) → Machine × ScriptState
 turn_by config board line machine c (Invokes call) after = call_made config board line machine c call
 turn_by config board line machine c (Returns answer) after = after (script_state (c.ended ++ answer ∷ []) [])
 turn_by config board line machine c next after = (machine, c)

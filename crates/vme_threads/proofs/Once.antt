@@ -1,5 +1,5 @@
 -- Lines that are attempted once: commands to the local port and requests over the bus, event by event.
-use Rattle.std.proofs.Common.{◌≡◌, ◌≢◌, ℕ, ◌<◌, false, List, [], ◌∷◌, ◌++◌, length, map, Option, Some, None, IfSome, Result, Ok, Err, refl, ap, sym, subst, ◌∙◌}
+use Rattle.std.proofs.Common.{◌≡◌, ◌≢◌, ℕ, ◌<◌, List, [], ◌∷◌, ◌++◌, length, map, Option, Some, None, IfSome, Result, Ok, Err, refl, ap, sym, subst, ◌∙◌}
 use Rattle.std.specs.Prelude.{slice_get, IfOk}
 use Rattle.vme_memory.specs.declared.command.BoardCmd.{BoardCmd}
 use Rattle.vme_memory.specs.declared.reply.Reply.{Reply}
@@ -28,10 +28,11 @@ use Rattle.vme_script.specs.declared.script.ScriptLine.{ScriptLine}
 use Rattle.vme_script.specs.Boards.{entries_of}
 use Rattle.vme_script.specs.Configurations.{Configuration}
 use Rattle.vme_line_task.specs.Scripts.{Transferring, slot_at, level_at, lines_at, transfer_job, request_attempt, line_attempt}
-use Rattle.vme_line_task.specs.Tables.{transferring_next, attempts_of, next_wants_retry, next_given, line_next, given_of}
+use Rattle.vme_line_task.specs.Tables.{transferring_next, next_given, line_next, given_of}
 use Rattle.vme_line_task.specs.Events.{IsCallBelow}
 use Rattle.vme_line_task.specs.Traces.{Continues}
 use Rattle.vme_line_task.proofs.lemmas.Below.{next_below}
+use Rattle.vme_line_task.proofs.lemmas.Once.{all_given}
 use Rattle.vme_line_task.proofs.lemmas.Traces.{goes-snoc}
 use Rattle.vme_port.specs.declared.fault.Spent.{Spent}
 use Rattle.vme_threads.specs.declared.processor_pass.ProcessorPass.{ProcessorPass}
@@ -40,19 +41,6 @@ use Rattle.vme_threads.specs.ProcessorPasses.{MatchesPorts, AddsTransitions, Add
 use Rattle.vme_threads.specs.Rans.{IsAnsweredBy, AddsLine}
 use Rattle.vme_threads.proofs.ProcessorPasses.{made_none, made_more, fits_after}
 use Rattle.vme_threads.proofs.Runs.{script_is}
-
--- the outcome of a transfer or of a local command never asks for another attempt
-attempted_once : (next : NextStep Outcome) → next_wants_retry (transferring_next next) ≡ false
-attempted_once NotStarted = refl
-attempted_once (Invokes call) = refl
-attempted_once (Returns outcome) = refl
-
--- all replies to a line that is attempted once are replies to its one attempt
-all_given : (job : Job) (tries : ℕ) (given : Inputs) → (attempts_of (Transferring job) tries given).given ≡ given
-all_given job tries [] = refl
-all_given job tries (last ∷ before) =
-    rw (attempted_once (next_of job (last ∷ (attempts_of (Transferring job) tries before).given)))
-    (ap (λ (g : Inputs). last ∷ g) (all_given job tries before))
 
 -- a line that is attempted once does next what its job does
 pub once_next : (config : Configuration) (board : ℕ) (line : Line) (job : Job) (replies : List EventReply)

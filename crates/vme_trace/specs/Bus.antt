@@ -35,7 +35,9 @@ upper_lanes lanes = lane_at lanes 0 ∷ lane_at lanes 1 ∷ lane_at lanes 2 ∷ 
 
 -- the number on the lanes of the address lines, D63 to D32
 abbrev pub upper_number : List (Option ℕ) → ℕ
-upper_number lanes = 16777216 * byte_on (lane_at lanes 0) + 65536 * byte_on (lane_at lanes 1) + 256 * byte_on (lane_at lanes 2) + byte_on (lane_at lanes 3)
+upper_number lanes =
+    16777216 * byte_on (lane_at lanes 0) + 65536 * byte_on (lane_at lanes 1) + 256 * byte_on (lane_at lanes 2)
+    + byte_on (lane_at lanes 3)
 
 -- whether a handshake moves eight bytes, four of them over the address lines
 abbrev pub is_wide : Handshake → Bool
@@ -58,7 +60,8 @@ unfoldable pub address_changes : Handshake → List Change
 address_changes t =
     change_if t.opens BEGIN (code_of AddressLines) (Number 32 (address_number t.lines))
     ++ (change_if t.clears SECOND (code_of AddressLines) Released
-    ++ (change_if (is_wide t) (drive_edge t) (code_of AddressLines) (Number 32 (upper_number t.lines.lanes - upper_number t.lines.lanes % 2))
+    ++ (change_if (is_wide t) (drive_edge t) (code_of AddressLines)
+        (Number 32 (upper_number t.lines.lanes - upper_number t.lines.lanes % 2))
     ++ (change_if (is_wide t) (edge_of t DATA_RELEASED) (code_of AddressLines) Released
     ++ change_if t.ends (edge_of t ADDRESS_RELEASED) (code_of AddressLines) Released)))
 

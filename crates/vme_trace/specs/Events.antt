@@ -30,7 +30,8 @@ is_alone (Some grant) = grant.alone
 
 -- the number of the event, and whose it is
 unfoldable pub name_changes : ℕ → Observation → List Change
-name_changes n o = change_if true BEGIN (code_of EventNumber) (Number 32 n) ++ change_if true BEGIN (code_of EventSlot) (Number 5 o.slot)
+name_changes n o =
+    change_if true BEGIN (code_of EventNumber) (Number 32 n) ++ change_if true BEGIN (code_of EventSlot) (Number 5 o.slot)
 
 -- the slot that holds the bus, and BBSY*; IEEE 1014-1987, 3.2 (arbitration bus lines)
 unfoldable pub holder_changes : Observation → List Change
@@ -52,7 +53,8 @@ bus_changes n o =
     name_changes n o
     ++ (holder_changes o
     ++ (request_line_changes o
-    ++ (some_handshake_changes (first_handshake o.activity o.reply) ++ some_handshake_changes (second_handshake o.activity o.reply))))
+    ++ (some_handshake_changes (first_handshake o.activity o.reply)
+    ++ some_handshake_changes (second_handshake o.activity o.reply))))
 
 -- the changes of event n on a backplane with so many boards: the variables of the bus, and then those of each slot
 unfoldable pub event_changes : ℕ → ℕ → Observation → List Change

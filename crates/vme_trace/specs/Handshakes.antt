@@ -119,7 +119,10 @@ half_handshake half = record {
 abbrev pub first_of_datum : TransferredDatum → Reply → Handshake
 first_of_datum d reply =
     if has_address_phase d then address_handshake d
-    else record (ending_handshake d reply false) { opens = d.first; ends = is_none (half_of d reply) && (is_berr reply || d.last) }
+    else record (ending_handshake d reply false) {
+      opens = d.first;
+      ends = is_none (half_of d reply) && (is_berr reply || d.last);
+    }
 
 -- the second handshake of a datum, if it has one: the first datum of an eight-byte block, for which the board drives the
 -- address lines in a read; or the write half of a read-modify-write

@@ -43,7 +43,8 @@ access offset write bytes new berr = record { offset = offset; write = write; by
 abbrev pub port_access : BoardCmd → Reply → Option PortAccess
 port_access (given.LocalRead offset n) reply = Some (access offset false (reply_lanes reply) None (is_berr reply))
 port_access (given.LocalWrite offset bytes) reply = Some (access offset true (port_lanes bytes.items) None (is_berr reply))
-port_access (given.LocalModify offset n f) reply = Some (access offset false (reply_lanes reply) (new_lanes f reply) (is_berr reply))
+port_access (given.LocalModify offset n f) reply =
+    Some (access offset false (reply_lanes reply) (new_lanes f reply) (is_berr reply))
 port_access (given.Cycle signals at f) reply = None
 
 -- the edge that comes so many edges after the begin of the last handshake, the second in a read-modify-write
@@ -53,7 +54,8 @@ last_edge a after = if is_some a.new then SECOND + after else FIRST + after
 -- the select line
 unfoldable pub select_changes : ℕ → PortAccess → List Change
 select_changes board a =
-    change_if true FIRST (code_of (PortSelect board)) High ++ change_if true (last_edge a STROBES_RISE) (code_of (PortSelect board)) Low
+    change_if true FIRST (code_of (PortSelect board)) High
+    ++ change_if true (last_edge a STROBES_RISE) (code_of (PortSelect board)) Low
 
 -- the write line and the offset
 unfoldable pub control_changes : ℕ → PortAccess → List Change
@@ -74,7 +76,8 @@ unfoldable pub bytes_changes : ℕ → PortAccess → List Change
 bytes_changes board a =
     lanes_if a.bytes (if a.write then FIRST else FIRST + BOARD_DRIVES) (code_of (PortData board))
     ++ (change_if (is_some a.bytes) (FIRST + DATA_RELEASED) (code_of (PortData board)) no_lanes
-    ++ (lanes_if a.new SECOND (code_of (PortData board)) ++ change_if (is_some a.new) (SECOND + DATA_RELEASED) (code_of (PortData board)) no_lanes))
+    ++ (lanes_if a.new SECOND (code_of (PortData board))
+    ++ change_if (is_some a.new) (SECOND + DATA_RELEASED) (code_of (PortData board)) no_lanes))
 
 -- the reply: done, or a bus error
 unfoldable pub reply_changes : ℕ → PortAccess → List Change
@@ -83,7 +86,8 @@ reply_changes board a =
     ++ (change_if (not a.berr) (FIRST + ANSWER_RISES) (code_of (PortDone board)) Low
     ++ (change_if (is_some a.new) (SECOND + ANSWER_FALLS) (code_of (PortDone board)) High
     ++ (change_if (is_some a.new) (SECOND + ANSWER_RISES) (code_of (PortDone board)) Low
-    ++ (change_if a.berr (FIRST + ANSWER_FALLS) (code_of (PortError board)) High ++ change_if a.berr (FIRST + ANSWER_RISES) (code_of (PortError board)) Low))))
+    ++ (change_if a.berr (FIRST + ANSWER_FALLS) (code_of (PortError board)) High
+    ++ change_if a.berr (FIRST + ANSWER_RISES) (code_of (PortError board)) Low))))
 
 -- the local port of a board in an event, in order of the variables
 unfoldable pub port_changes : ℕ → PortAccess → List Change

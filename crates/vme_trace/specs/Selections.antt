@@ -35,7 +35,9 @@ comes_before p = nat_lt (p.number + 1) p.selection.range.first
 -- whether the next event is shown
 abbrev pub is_shown : Progress → Observation → Bool
 is_shown p o =
-    nat_le p.selection.range.first (p.number + 1) && nat_le (p.number + 1) p.selection.range.last && (p.selection.polls || not (waits o))
+    nat_le p.selection.range.first (p.number + 1)
+    && nat_le (p.number + 1) p.selection.range.last
+    && (p.selection.polls || not (waits o))
 
 -- how far a dump is after the next event
 abbrev pub next_progress : Progress → Observation → Progress

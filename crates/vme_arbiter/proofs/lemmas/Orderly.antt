@@ -12,7 +12,7 @@ use Rattle.vme_arbiter.specs.declared.kind.ArbiterKind.{ArbiterKind}
 use Rattle.vme_arbiter.specs.declared.kind.ArbiterKind.TheVariants.{Priority, Rotating}
 use Rattle.vme_arbiter.specs.Levels.{level_order, first_after}
 use Rattle.vme_arbiter.specs.Requests.{BusRequest, bus_request, is_slot, is_level}
-use Rattle.vme_arbiter.specs.Arbitration.{Arbitration, opening_bus, holds, pends, can_ask, lawful_ask, bus_after_release, next_of, arbiter_step}
+use Rattle.vme_arbiter.specs.Arbitration.{Arbitration, opening_bus, holds, pends, can_ask, lawful_ask, bus_after_release, next_granted, arbiter_step}
 use Rattle.vme_arbiter.specs.Orderly.{IsLawfulRequest, IsOrderly}
 use Rattle.vme_arbiter.proofs.Grants.{granted-pends, none-granted}
 use Rattle.vme_arbiter.proofs.Pending.{has_slot-with, has_slot-without_same, All-with, by_slot-with, by_slot-without}
@@ -76,7 +76,7 @@ taken-orderly (Some h) bus slot level is orderly can =
     }
 
 -- a release leaves an orderly state
-handed-orderly : (bus : Arbitration) (next : Option BusRequest) → next_of bus ≡ next → IsOrderly bus
+handed-orderly : (bus : Arbitration) (next : Option BusRequest) → next_granted bus ≡ next → IsOrderly bus
     → IsOrderly (bus_after_release next bus)
 handed-orderly bus None is_next orderly =
     record {
@@ -119,7 +119,7 @@ orderly-step bus (Ask slot level) orderly =
 orderly-step bus (Look slot) orderly = orderly
 orderly-step bus (Done slot) orderly =
     elim (cases_Bool (holds bus slot)) [
-      | inl held ↦ rw held (handed-orderly bus (next_of bus) refl orderly)
+      | inl held ↦ rw held (handed-orderly bus (next_granted bus) refl orderly)
       | inr not_held ↦ rw not_held orderly
     ]
 
@@ -148,4 +148,4 @@ kind-stays bus (Ask slot level) =
     ]
 kind-stays bus (Look slot) = refl
 kind-stays bus (Done slot) =
-    elim (cases_Bool (holds bus slot)) [ inl held ↦ rw held (handed-kind (next_of bus) bus) | inr not_held ↦ rw not_held refl ]
+    elim (cases_Bool (holds bus slot)) [ inl held ↦ rw held (handed-kind (next_granted bus) bus) | inr not_held ↦ rw not_held refl ]

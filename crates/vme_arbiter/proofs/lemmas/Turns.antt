@@ -13,7 +13,7 @@ use Rattle.vme_arbiter.specs.declared.command.ArbReply.TheVariants.{Granted, Wai
 use Rattle.vme_arbiter.specs.declared.kind.ArbiterKind.{ArbiterKind}
 use Rattle.vme_arbiter.specs.Levels.{level_order}
 use Rattle.vme_arbiter.specs.Requests.{BusRequest, bus_request, is_slot, with_request, is_level}
-use Rattle.vme_arbiter.specs.Arbitration.{Arbitration, opening_bus, holds, pends, can_ask, ask_step, lawful_ask, bus_after_release, next_of, arbiter_step}
+use Rattle.vme_arbiter.specs.Arbitration.{Arbitration, opening_bus, holds, pends, can_ask, ask_step, lawful_ask, bus_after_release, next_granted, arbiter_step}
 use Rattle.vme_arbiter.specs.Orderly.{IsLawfulHolder, IsOrderly}
 use Rattle.vme_arbiter.specs.Masters.{slot_of, may_give, IsAsReplied, MatchesReply, SlotFollowsReplies, FollowReplies}
 use Rattle.vme_arbiter.proofs.Pending.{has_slot, has_slot-with, has_slot-without_other, granted-has_slot}
@@ -56,7 +56,7 @@ ask-fits bus slot level slot_ok level_ok not_holds not_pends =
     rw can (taken-fits bus.holder bus slot level)
 
 -- a slot that does not wait neither holds nor waits after it releases the bus
-handed-nowhere : (bus : Arbitration) (slot : ℕ) (next : Option BusRequest) → next_of bus ≡ next → has_slot slot bus.pending ≡ false
+handed-nowhere : (bus : Arbitration) (slot : ℕ) (next : Option BusRequest) → next_granted bus ≡ next → has_slot slot bus.pending ≡ false
     → MatchesReply (bus_after_release next bus) slot (Some Freed)
 handed-nowhere bus slot None is_next none = (refl, none)
 handed-nowhere bus slot (Some next) is_next none =
@@ -73,7 +73,7 @@ promoted pending (Some Granted) one fits left = refl
 promoted pending (Some Denied) one fits left = fits
 
 -- a slot other than the holder matches its last reply after a release
-handed-other : (bus : Arbitration) (slot : ℕ) (last : Option ArbReply) (next : Option BusRequest) → next_of bus ≡ next
+handed-other : (bus : Arbitration) (slot : ℕ) (last : Option ArbReply) (next : Option BusRequest) → next_granted bus ≡ next
     → IsAsReplied false (has_slot slot bus.pending) last → MatchesReply (bus_after_release next bus) slot last
 handed-other bus slot last None is_next fits = fits
 handed-other bus slot last (Some next) is_next fits =
@@ -130,7 +130,7 @@ look-fits bus slot fits =
 done-fits : (bus : Arbitration) (slot : ℕ) → IsOrderly bus → holds bus slot ≡ true
     → MatchesReply (arbiter_step bus (Done slot)).0 slot (Some (arbiter_step bus (Done slot)).1)
 done-fits bus slot orderly held =
-    rw held (handed-nowhere bus slot (next_of bus) refl (holder-not_pends bus.holder bus slot refl orderly.holder held))
+    rw held (handed-nowhere bus slot (next_granted bus) refl (holder-not_pends bus.holder bus slot refl orderly.holder held))
 
 -- a command that a slot may give leaves it as the reply states
 pub own-reply : (bus : Arbitration) (slot : ℕ) (last : Option ArbReply) (cmd : ArbCmd) → IsOrderly bus → is_slot slot ≡ true
@@ -158,7 +158,7 @@ other-reply bus slot last (Done done) other fits =
     elim (cases_Bool (holds bus done)) [
       | inl held ↦
           let not_held : holds bus slot ≡ false = other-not_held bus.holder done slot held other in
-          rw held (handed-other bus slot last (next_of bus) refl (rw not_held at fits))
+          rw held (handed-other bus slot last (next_granted bus) refl (rw not_held at fits))
       | inr not_held ↦ rw not_held fits
     ]
 

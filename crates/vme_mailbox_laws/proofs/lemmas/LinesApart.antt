@@ -22,7 +22,7 @@ use Rattle.vme_grammar.specs.declared.line.Line.{Line}
 use Rattle.vme_grammar.specs.declared.line.Line.TheVariants as lines
 use Rattle.vme_script.specs.declared.mailbox_numbers.MailboxNumbers.TheVariants.{Declared}
 use Rattle.vme_script.specs.declared.board_range.BoardRange.{BoardRange}
-use Rattle.vme_script.specs.Bytes.{request_bytes, local_bytes}
+use Rattle.vme_script.specs.Bytes.{request_bytes, local_range}
 use Rattle.vme_script.specs.Declarations.{Declaration}
 use Rattle.vme_script.specs.MailboxNumbers.{has_box, may_name}
 use Rattle.vme_script.specs.BoardRanges.{share}
@@ -95,7 +95,7 @@ module _ (config : Configuration) (k who : ℕ) (mailbox : Mailbox) (lawful : Is
   one_line (lines.Bus request) c own may free other calls =
       by_bytes (request_bytes entries request) c free (bus_sends config who request fine.place.board c calls)
   one_line (lines.Local cmd) c own may free other calls =
-      by_bytes (local_bytes who cmd) c free (local_sends who cmd fine.place.board c own calls)
+      by_bytes (local_range who cmd) c free (local_sends who cmd fine.place.board c own calls)
   one_line (lines.Await am addr bytes) c own may free other calls =
       let read = requests.Read am addr (length bytes.items) in
       by_bytes (request_bytes entries read) c free (await_sends config who read bytes.items fine.place.board c calls)

@@ -13,7 +13,7 @@ use Rattle.vme_core.specs.declared.event.EventReply.TheVariants as replies
 use Rattle.vme_master.specs.declared.expected.ExpectedReply.TheVariants as expected_replies
 use Rattle.vme_master.specs.declared.job.LocalJob.{LocalJob}
 use Rattle.vme_master.specs.declared.job.Job.TheVariants.{Local}
-use Rattle.vme_master.specs.Jobs.{local_call, fits, request_expected, command_expected}
+use Rattle.vme_master.specs.Jobs.{local_call, fits_call, request_expected, command_expected}
 use Rattle.vme_master.specs.Machine.{expected_len, job_expected}
 
 -- a request expects the reply that its two tests, for a read and for a function, give
@@ -49,5 +49,5 @@ command_len_wanted (Some (BlockRead at n)) = refl
 command_len_wanted (Some (BlockWrite at new)) = refl
 
 -- a reply fits a local command exactly if it has the form that the command expects
-pub local_len_wanted : (j : LocalJob) (reply : Reply) → fits (local_call j) (replies.Board reply) ≡ has_form (expected_len (job_expected (Local j))) reply
+pub local_len_wanted : (j : LocalJob) (reply : Reply) → fits_call (local_call j) (replies.Board reply) ≡ has_form (expected_len (job_expected (Local j))) reply
 local_len_wanted j reply = ap (λ wanted. has_form wanted reply) (command_len_wanted (command_given j.cmd))

@@ -21,7 +21,7 @@ use Rattle.vme_master.specs.declared.outcome.Outcome.{Outcome}
 use Rattle.vme_master.specs.declared.job.LocalJob.{LocalJob}
 use Rattle.vme_master.specs.declared.job.Job.{Job}
 use Rattle.vme_master.specs.declared.job.Job.TheVariants.{Bus, Local}
-use Rattle.vme_master.specs.Jobs.{bus_job, local_call, answers_command, fits}
+use Rattle.vme_master.specs.Jobs.{bus_job, local_call, answers_command, fits_call}
 use Rattle.vme_master.specs.Tables.{Inputs, next_after, next_of}
 use Rattle.vme_master.specs.Laws.{IsBelow}
 use Rattle.vme_master.proofs.lemmas.Tenures.{data_go_on}
@@ -34,10 +34,10 @@ MakesOwn j next = Unit {0}
 -- after a call and a reply, a local command makes no other call than its own
 own_row : (j : LocalJob) (call : Call) (reply : EventReply) (g : Inputs) → MakesOwn j (next_after (Local j) (Invokes call) (Some reply) g)
 own_row j call (replies.Board (Bytes datum)) g =
-    elim (cases_Bool (fits call (replies.Board (Bytes datum)))) [ inl fit ↦ rw fit tt | inr misfit ↦ rw misfit tt ]
-own_row j call (replies.Board Done) g = elim (cases_Bool (fits call (replies.Board Done))) [ inl fit ↦ rw fit tt | inr misfit ↦ rw misfit tt ]
-own_row j call (replies.Board Berr) g = elim (cases_Bool (fits call (replies.Board Berr))) [ inl fit ↦ rw fit tt | inr misfit ↦ rw misfit tt ]
-own_row j call (replies.Bus reply) g = elim (cases_Bool (fits call (replies.Bus reply))) [ inl fit ↦ rw fit tt | inr misfit ↦ rw misfit tt ]
+    elim (cases_Bool (fits_call call (replies.Board (Bytes datum)))) [ inl fit ↦ rw fit tt | inr misfit ↦ rw misfit tt ]
+own_row j call (replies.Board Done) g = elim (cases_Bool (fits_call call (replies.Board Done))) [ inl fit ↦ rw fit tt | inr misfit ↦ rw misfit tt ]
+own_row j call (replies.Board Berr) g = elim (cases_Bool (fits_call call (replies.Board Berr))) [ inl fit ↦ rw fit tt | inr misfit ↦ rw misfit tt ]
+own_row j call (replies.Bus reply) g = elim (cases_Bool (fits_call call (replies.Bus reply))) [ inl fit ↦ rw fit tt | inr misfit ↦ rw misfit tt ]
 
 -- after one more input, a local command makes no other call than its own
 own_step : (j : LocalJob) (next : NextStep Outcome) (last : Option EventReply) (g : Inputs) → MakesOwn j (next_after (Local j) next last g)
@@ -70,7 +70,7 @@ pub bus_below : (map : List Entry) (slot level : ℕ) (t : Transfer) → IsBelow
 bus_below map slot level t board offset placed = result_place (Some (board, offset)) map t.am (addr_of t.request) (sym placed)
 
 -- a board's reply fits its command
-pub board_fits : (m : Board) (board : ℕ) (command : Option Command) → fits (OnBoard board command) (replies.Board (command_step m command).1) ≡ true
+pub board_fits : (m : Board) (board : ℕ) (command : Option Command) → fits_call (OnBoard board command) (replies.Board (command_step m command).1) ≡ true
 board_fits m board None = refl
 board_fits m board (Some command) = reply_form m command
 
@@ -81,7 +81,7 @@ ask_fits None bus slot level = refl
 ask_fits (Some h) bus slot level = refl
 
 -- the arbiter's reply fits its command
-pub arbiter_fits : (bus : Arbitration) (cmd : ArbCmd) → fits (OnBus cmd) (replies.Bus (arbiter_step bus cmd).1) ≡ true
+pub arbiter_fits : (bus : Arbitration) (cmd : ArbCmd) → fits_call (OnBus cmd) (replies.Bus (arbiter_step bus cmd).1) ≡ true
 arbiter_fits bus (arb_commands.Ask slot level) =
     elim (cases_Bool (can_ask bus slot level)) [ inl can ↦ rw can (ask_fits bus.holder bus slot level) | inr cannot ↦ rw cannot refl ]
 arbiter_fits bus (arb_commands.Look slot) =

@@ -19,7 +19,7 @@ use Rattle.vme_master.specs.declared.job.Job.TheVariants.{Bus, Local}
 use Rattle.vme_master.specs.declared.phase.Phase.{Phase}
 use Rattle.vme_master.specs.declared.phase.Phase.TheVariants.{New, Requesting, Polling, Transferring, Releasing, Finished, Denied}
 use Rattle.vme_master.specs.declared.outcome.Outcome.TheVariants as outcomes
-use Rattle.vme_master.specs.Jobs.{ask_call, look_call, done_call, datum_call, local_call, fits, request_expected, expected_outcome, error_outcome}
+use Rattle.vme_master.specs.Jobs.{ask_call, look_call, done_call, datum_call, local_call, fits_call, request_expected, expected_outcome, error_outcome}
 use Rattle.vme_master.specs.Tables.{Inputs, data_in, bytes_in, datum_or_done, outcome_by, next_of}
 use Rattle.vme_master.specs.Machine.{TaskView, job_expected, expected_len, end_outcome, datum_phase, phase_answered, phase_replied, bytes_of, task_after, task_given, job_next, to_do}
 use Rattle.vme_master.proofs.lemmas.Expected.{datum_len_wanted, local_len_wanted}
@@ -120,13 +120,13 @@ bus_reported j read g arb_replies.Denied idle (inr looks) = rw looks refl
 
 -- a board's reply fits a datum's call by its form alone
 datum_fits : (j : BusJob) (place : Option (ℕ × ℕ)) (i : ℕ) (reply : Reply) → is_some place ≡ true
-    → fits (datum_call j place i) (replies.Board reply) ≡ has_form (expected_len (job_expected (Bus j))) reply
+    → fits_call (datum_call j place i) (replies.Board reply) ≡ has_form (expected_len (job_expected (Bus j))) reply
 datum_fits j None i reply some = absurd cc
 datum_fits j (Some p) i reply some = ap (λ wanted. has_form wanted reply) (datum_len_wanted j.transfer.request i _)
 
 -- the arbiter's reply never fits a datum's call
 datum_unreported : (j : BusJob) (place : Option (ℕ × ℕ)) (i : ℕ) (reply : ArbReply) → is_some place ≡ true
-    → fits (datum_call j place i) (replies.Bus reply) ≡ false
+    → fits_call (datum_call j place i) (replies.Bus reply) ≡ false
 datum_unreported j None i reply some = absurd cc
 datum_unreported j (Some p) i reply some = refl
 
@@ -141,7 +141,7 @@ bus_replied : (j : BusJob) (i : ℕ) (read : List ℕ) (g : Inputs) (reply : Rep
     → has_form (expected_len (job_expected (Bus j))) reply ≡ true
     → BusFacts j (phase_replied (Bus j) i reply) (read ++ bytes_of reply) (Some (replies.Board reply) ∷ g)
 bus_replied j i read g (Bytes datum) facts form =
-    let fit : fits (datum_call j j.place i) (replies.Board (Bytes datum)) ≡ true = datum_fits j j.place i (Bytes datum) facts.1 ∙ form in
+    let fit : fits_call (datum_call j j.place i) (replies.Board (Bytes datum)) ≡ true = datum_fits j j.place i (Bytes datum) facts.1 ∙ form in
     leads_on j j.place (i + 1) (read ++ datum.items) (Some (replies.Board (Bytes datum)) ∷ g) refl (inl facts.1)
     (record {
       next = rw (facts.0, fit) (ap (λ n. Invokes (datum_or_done j (n + 1))) (sym facts.2));
@@ -150,7 +150,7 @@ bus_replied j i read g (Bytes datum) facts form =
       whole = λ p. refl;
     })
 bus_replied j i read g Done facts form =
-    let fit : fits (datum_call j j.place i) (replies.Board Done) ≡ true = datum_fits j j.place i Done facts.1 ∙ form in
+    let fit : fits_call (datum_call j j.place i) (replies.Board Done) ≡ true = datum_fits j j.place i Done facts.1 ∙ form in
     leads_on j j.place (i + 1) (read ++ []) (Some (replies.Board Done) ∷ g) refl (inl facts.1)
     (record {
       next = rw (facts.0, fit) (ap (λ n. Invokes (datum_or_done j (n + 1))) (sym facts.2));
@@ -159,7 +159,7 @@ bus_replied j i read g Done facts form =
       whole = λ p. refl;
     })
 bus_replied j i read g Berr facts form =
-    let fit : fits (datum_call j j.place i) (replies.Board Berr) ≡ true = datum_fits j j.place i Berr facts.1 ∙ form in
+    let fit : fits_call (datum_call j j.place i) (replies.Board Berr) ≡ true = datum_fits j j.place i Berr facts.1 ∙ form in
     (rw (facts.0, fit) refl, broken j j.place i (read ++ []) g facts.1 facts.2 (append-nil read ∙ facts.3))
 
 -- the fields of a transfer fit after any reply of a board
@@ -170,7 +170,7 @@ bus_answered j i read g reply facts =
     elim (cases_Bool (has_form (expected_len (job_expected (Bus j))) reply)) [
       | inl form ↦ rw form (bus_replied j i read g reply facts form)
       | inr misfit ↦
-          let unfit : fits (datum_call j j.place i) (replies.Board reply) ≡ false = datum_fits j j.place i reply facts.1 ∙ misfit in
+          let unfit : fits_call (datum_call j j.place i) (replies.Board reply) ≡ false = datum_fits j j.place i reply facts.1 ∙ misfit in
           rw misfit (rw (facts.0, unfit) refl)
     ]
 
@@ -187,7 +187,7 @@ bus_step j Polling read g (Some (replies.Bus reply)) facts = bus_reported j read
 bus_step j Polling read g (Some (replies.Board reply)) facts = rw facts.0 refl
 bus_step j (Transferring i) read g None facts = rw facts.0 refl
 bus_step j (Transferring i) read g (Some (replies.Bus reply)) facts =
-    let unfit : fits (datum_call j j.place i) (replies.Bus reply) ≡ false = datum_unreported j j.place i reply facts.1 in
+    let unfit : fits_call (datum_call j j.place i) (replies.Bus reply) ≡ false = datum_unreported j j.place i reply facts.1 in
     rw (facts.0, unfit) refl
 bus_step j (Transferring i) read g (Some (replies.Board reply)) facts = bus_answered j i read g reply facts
 bus_step j (Releasing berr) read g None facts = rw facts.0 refl
@@ -204,10 +204,10 @@ local_replied : (j : LocalJob) (read : List ℕ) (g : Inputs) (reply : Reply) �
     → has_form (expected_len (job_expected (Local j))) reply ≡ true
     → LocalFacts j (phase_replied (Local j) 0 reply) (read ++ bytes_of reply) (Some (replies.Board reply) ∷ g)
 local_replied j read g (Bytes datum) facts form =
-    let fit : fits (local_call j) (replies.Board (Bytes datum)) ≡ true = local_len_wanted j (Bytes datum) ∙ form in
+    let fit : fits_call (local_call j) (replies.Board (Bytes datum)) ≡ true = local_len_wanted j (Bytes datum) ∙ form in
     rw (facts.0, fit) (ap (λ bytes. Returns (expected_outcome (job_expected (Local j)) (bytes ++ datum.items))) (sym facts.2))
 local_replied j read g Done facts form =
-    let fit : fits (local_call j) (replies.Board Done) ≡ true = local_len_wanted j Done ∙ form in
+    let fit : fits_call (local_call j) (replies.Board Done) ≡ true = local_len_wanted j Done ∙ form in
     rw (facts.0, fit) (ap (λ bytes. Returns (expected_outcome (job_expected (Local j)) (bytes ++ []))) (sym facts.2))
 local_replied j read g Berr facts form = rw facts.0 (ap (λ bytes. Returns (error_outcome 0 (bytes ++ []))) (sym facts.2))
 
@@ -219,7 +219,7 @@ local_answered j read g reply facts =
     elim (cases_Bool (has_form (expected_len (job_expected (Local j))) reply)) [
       | inl form ↦ rw form (local_replied j read g reply facts form)
       | inr misfit ↦
-          let unfit : fits (local_call j) (replies.Board reply) ≡ false = local_len_wanted j reply ∙ misfit in
+          let unfit : fits_call (local_call j) (replies.Board reply) ≡ false = local_len_wanted j reply ∙ misfit in
           rw misfit (rw (facts.0, unfit) refl)
     ]
 

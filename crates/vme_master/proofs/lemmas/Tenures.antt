@@ -19,7 +19,7 @@ use Rattle.vme_master.specs.declared.job.BusJob.{BusJob}
 use Rattle.vme_master.specs.declared.job.Job.TheVariants.{Bus}
 use Rattle.vme_master.specs.declared.outcome.Outcome.{Outcome}
 use Rattle.vme_master.specs.declared.outcome.Outcome.TheVariants as outcomes
-use Rattle.vme_master.specs.Jobs.{datum_call, fits, error_outcome}
+use Rattle.vme_master.specs.Jobs.{datum_call, fits_call, error_outcome}
 use Rattle.vme_master.specs.Tables.{Inputs, data_in, datum_or_done, outcome_by, bus_row, next_after, next_of}
 use Rattle.vme_master.specs.Laws.{last_arb_reply, IsNextDatum}
 
@@ -87,7 +87,7 @@ step_stands j g (Invokes (OnBus (arb_commands.Done slot))) (Some (replies.Bus ar
 step_stands j g (Invokes (OnBus cmd)) (Some (replies.Board reply)) stands = inl refl
 step_stands j g (Invokes (OnBoard board command)) (Some (replies.Bus reply)) stands = inl refl
 step_stands j g (Invokes (OnBoard board command)) (Some (replies.Board reply)) stands =
-    elim (cases_Bool (fits (OnBoard board command) (replies.Board reply))) [
+    elim (cases_Bool (fits_call (OnBoard board command) (replies.Board reply))) [
       | inl fit ↦ rw fit (board_stands j g board command reply stands)
       | inr misfit ↦ rw misfit (inl refl)
     ]
@@ -158,7 +158,7 @@ pub ends_freed : (j : BusJob) (g : Inputs) (call : Call) (reply : EventReply) (o
     → next_of (Bus j) (Some reply ∷ g) ≡ Returns outcome → outcome ≢ outcomes.Denied → reply ≡ replies.Bus arb_replies.Freed
 ends_freed j g call reply outcome made next good =
     let after = rw made at next in
-    elim (cases_Bool (fits call reply)) [
+    elim (cases_Bool (fits_call call reply)) [
       | inl fit ↦ row_ends j g reply outcome (rw fit at after) good
       | inr misfit ↦ absurd (good (sym (same_end outcomes.Denied outcome (rw misfit at after))))
     ]

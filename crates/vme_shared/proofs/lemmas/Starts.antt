@@ -27,7 +27,7 @@ use Rattle.vme_shared.specs.declared.stage.Stage.{Stage}
 use Rattle.vme_shared.specs.declared.stage.Stage.TheVariants as stages
 use Rattle.vme_shared.specs.Mailboxes.{put_count_at, take_count_at, word_at, raised, IsMailbox, IsWellFormed, set_lock, clear_lock, read_word, write_word, mailbox_request, stage_request, refusal_in, mailbox_refusal, shared_refusal}
 use Rattle.vme_shared.specs.Steps.{first_stage}
-use Rattle.vme_shared.specs.Tables.{SharedJob, transfer_job, stage_job, stage_begun, next_at, progress_given, shared_next}
+use Rattle.vme_shared.specs.Tables.{SharedJob, checked_job, stage_job, stage_begun, next_at, progress_given, shared_next}
 
 -- a request is lawful
 abbrev pub IsLawfulRequest : Request → Type 0
@@ -143,7 +143,7 @@ stage_lawful (Take mailbox) stage is none =
 -- each stage of an accepted request has its bus job
 pub all_lawful : (s : SharedJob) (stage : Stage) → IsWellFormed s.request → shared_refusal s.request ≡ None
     → (job : Job) × (stage_job s stage ≡ Ok job)
-all_lawful s stage is none = let one = stage_lawful s.request stage is none in (_, ap (transfer_job s) one.1)
+all_lawful s stage is none = let one = stage_lawful s.request stage is none in (_, ap (checked_job s) one.1)
 
 -- the first transfer of an accepted request is lawful, wherever its mailbox lies
 pub first_lawful : (request : SharedRequest) → shared_refusal request ≡ None → IsLawfulRequest (stage_request request (first_stage request))
@@ -156,10 +156,10 @@ first_lawful (Take mailbox) none = (looked mailbox none).lock
 pub rests : (s : SharedJob) → shared_refusal s.request ≡ None → shared_next s [] ≡ NotStarted
 rests s none =
     let one = first_lawful s.request none in
-    ap (λ job. next_at (stage_begun (first_stage s.request) [] job)) (ap (transfer_job s) one.1)
+    ap (λ job. next_at (stage_begun (first_stage s.request) [] job)) (ap (checked_job s) one.1)
 
 -- the first call of an accepted request requests the bus
 pub asks : (s : SharedJob) → shared_refusal s.request ≡ None → shared_next s (None ∷ []) ≡ Invokes (OnBus (Ask s.slot s.level))
 asks s none =
     let one = first_lawful s.request none in
-    ap (λ job. next_at (progress_given s None (stage_begun (first_stage s.request) [] job))) (ap (transfer_job s) one.1)
+    ap (λ job. next_at (progress_given s None (stage_begun (first_stage s.request) [] job))) (ap (checked_job s) one.1)

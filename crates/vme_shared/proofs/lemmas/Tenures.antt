@@ -24,7 +24,7 @@ use Rattle.vme_master.specs.declared.job.Job.{Job}
 use Rattle.vme_master.specs.declared.job.Job.TheVariants.{Bus}
 use Rattle.vme_master.specs.declared.outcome.Outcome.{Outcome}
 use Rattle.vme_master.specs.declared.outcome.Outcome.TheVariants as outcomes
-use Rattle.vme_master.specs.Jobs.{bus_job, fits, request_expected}
+use Rattle.vme_master.specs.Jobs.{bus_job, fits_call, request_expected}
 use Rattle.vme_master.specs.Tables.{Inputs, next_of}
 use Rattle.vme_master.specs.Laws.{last_arb_reply, IsBelow}
 use Rattle.vme_master.proofs.lemmas.Tenures as transfers
@@ -40,7 +40,7 @@ use Rattle.vme_shared.specs.declared.stage.StageResult.{StageResult}
 use Rattle.vme_shared.specs.declared.stage.StageResult.TheVariants.{Continue, Finish}
 use Rattle.vme_shared.specs.Mailboxes.{mailbox_request, stage_request}
 use Rattle.vme_shared.specs.Steps.{first_stage, step_after}
-use Rattle.vme_shared.specs.Tables.{SharedJob, Progress, At, Over, transfer_job, stage_job, stage_begun, step_begun, progress_by, progress_given, progress_of, task_shown, next_at, shared_next, arb_reply_at, shared_arb_reply}
+use Rattle.vme_shared.specs.Tables.{SharedJob, Progress, At, Over, checked_job, stage_job, stage_begun, step_begun, progress_by, progress_given, progress_of, task_shown, next_at, shared_next, arb_reply_at, shared_arb_reply}
 use Rattle.vme_shared.proofs.Transfers.{IsFormed, good_end, ends_formed}
 use Rattle.vme_shared.proofs.Steps.{IsSound, IsGood, GoesSound, first_sound, step_goes, step_good}
 
@@ -106,12 +106,12 @@ record OwnTask (s : SharedJob) (stage : Stage) (job : Job) : Type 0 where
   request : bus.transfer.request ≡ stage_request s.request stage
 
 -- the bus job of a lawful transfer is one of the slot, on its level
-same_job : (s : SharedJob) (t : Transfer) (job : Job) → transfer_job s (Ok t) ≡ Ok job → job ≡ bus_job s.map s.slot s.level t
+same_job : (s : SharedJob) (t : Transfer) (job : Job) → checked_job s (Ok t) ≡ Ok job → job ≡ bus_job s.map s.slot s.level t
 same_job s t job same = cc
 
 -- the bus job of a lawful transfer is one for the transfer, over the boards of the map
 own_by : (s : SharedJob) (stage : Stage) (transfer : Result Transfer CycleFault) (job : Job)
-    → transfer_of (stage_request s.request stage) ≡ transfer → transfer_job s transfer ≡ Ok job → OwnTask s stage job
+    → transfer_of (stage_request s.request stage) ≡ transfer → checked_job s transfer ≡ Ok job → OwnTask s stage job
 own_by s stage (Err fault) job from own = absurd cc
 own_by s stage (Ok t) job from own = record {
   bus = record { slot = s.slot; level = s.level; transfer = t; place = selection_at s.map t.am (addr_of t.request) };
@@ -221,7 +221,7 @@ record EndsWell (s : SharedJob) (stage : Stage) (reply : EventReply) (outcome : 
 
 -- a transfer that ends after a good reply ends well
 task_ends : (s : SharedJob) (stage : Stage) (job : Job) (given : Inputs) (call : Call) (reply : EventReply) (outcome : Outcome)
-    → IsCurrent s stage job given → next_of job given ≡ Invokes call → fits call reply ≡ true → reply ≢ replies.Bus arb_replies.Denied
+    → IsCurrent s stage job given → next_of job given ≡ Invokes call → fits_call call reply ≡ true → reply ≢ replies.Bus arb_replies.Denied
     → next_of job (Some reply ∷ given) ≡ Returns outcome → EndsWell s stage reply outcome
 task_ends s stage job given call reply outcome at made fit good ends =
     let own = own_task s stage job at.own in
@@ -251,7 +251,7 @@ turn_by s stage job given reply bus slot (Returns outcome) freed stands =
 
 -- at each progress, after a good reply of the arbiter, the slot holds or waits as the last reply states
 turn_at : (s : SharedJob) (p : Progress) (cmd : ArbCmd) (reply : ArbReply) (bus : Arbitration) (slot : ℕ) → Standing s p
-    → next_at p ≡ Invokes (OnBus cmd) → fits (OnBus cmd) (replies.Bus reply) ≡ true → replies.Bus reply ≢ replies.Bus arb_replies.Denied
+    → next_at p ≡ Invokes (OnBus cmd) → fits_call (OnBus cmd) (replies.Bus reply) ≡ true → replies.Bus reply ≢ replies.Bus arb_replies.Denied
     → MatchesReply bus slot (Some reply) → MatchesReply bus slot (arb_reply_at (progress_given s (Some (replies.Bus reply)) p))
 turn_at s (At stage job given) cmd reply bus slot at made fit good stands =
     turn_by s stage job given reply bus slot (next_of job (Some (replies.Bus reply) ∷ given))
@@ -263,7 +263,7 @@ turn_at s (Over end) cmd reply bus slot at made fit good stands = absurd cc
 
 -- after a good reply of the arbiter the slot holds or waits as the last reply states
 pub turn_reported : (s : SharedJob) (g : Inputs) (cmd : ArbCmd) (reply : ArbReply) (bus : Arbitration) (slot : ℕ)
-    → shared_next s g ≡ Invokes (OnBus cmd) → fits (OnBus cmd) (replies.Bus reply) ≡ true → replies.Bus reply ≢ replies.Bus arb_replies.Denied
+    → shared_next s g ≡ Invokes (OnBus cmd) → fits_call (OnBus cmd) (replies.Bus reply) ≡ true → replies.Bus reply ≢ replies.Bus arb_replies.Denied
     → MatchesReply bus slot (Some reply) → MatchesReply bus slot (shared_arb_reply s (Some (replies.Bus reply) ∷ g))
 turn_reported s g cmd reply bus slot made fit good stands = turn_at s (progress_of s g) cmd reply bus slot (standing s g) made fit good stands
 
@@ -277,7 +277,7 @@ datum_by s stage job given reply (Returns outcome) freed = let one = freed outco
 
 -- at each progress a good reply of a board leaves the arbiter's last reply the same
 datum_at : (s : SharedJob) (p : Progress) (call : Call) (reply : Reply) → Standing s p → next_at p ≡ Invokes call
-    → fits call (replies.Board reply) ≡ true → arb_reply_at (progress_given s (Some (replies.Board reply)) p) ≡ arb_reply_at p
+    → fits_call call (replies.Board reply) ≡ true → arb_reply_at (progress_given s (Some (replies.Board reply)) p) ≡ arb_reply_at p
 datum_at s (At stage job given) call reply at made fit =
     datum_by s stage job given reply (next_of job (Some (replies.Board reply) ∷ given))
     (λ outcome ends.
@@ -287,7 +287,7 @@ datum_at s (Over end) call reply at made fit = absurd cc
 
 -- a board's reply that fits leaves the arbiter's last reply the same
 pub datum_reported : (s : SharedJob) (g : Inputs) (call : Call) (reply : Reply) → shared_next s g ≡ Invokes call
-    → fits call (replies.Board reply) ≡ true → shared_arb_reply s (Some (replies.Board reply) ∷ g) ≡ shared_arb_reply s g
+    → fits_call call (replies.Board reply) ≡ true → shared_arb_reply s (Some (replies.Board reply) ∷ g) ≡ shared_arb_reply s g
 datum_reported s g call reply made fit = datum_at s (progress_of s g) call reply (standing s g) made fit
 
 -- an end after a good reply: it is no denial, the bus is free, and no reply of the arbiter is left
@@ -327,7 +327,7 @@ ends_by s stage job given reply end (Returns outcome) is well ends =
 
 -- at each progress an end after a good reply is a good end
 ends_at : (s : SharedJob) (p : Progress) (call : Call) (reply : EventReply) (end : SharedOutcome) → Standing s p → next_at p ≡ Invokes call
-    → fits call reply ≡ true → reply ≢ replies.Bus arb_replies.Denied → next_at (progress_given s (Some reply) p) ≡ Returns end
+    → fits_call call reply ≡ true → reply ≢ replies.Bus arb_replies.Denied → next_at (progress_given s (Some reply) p) ≡ Returns end
     → GoodEnd reply end (arb_reply_at (progress_given s (Some reply) p))
 ends_at s (At stage job given) call reply end at made fit good ends =
     ends_by s stage job given reply end (next_of job (Some reply ∷ given)) refl
@@ -336,7 +336,7 @@ ends_at s (Over stop) call reply end at made fit good ends = absurd cc
 
 -- an end after a good reply is no denial, and the bus is free
 pub ends_well : (s : SharedJob) (g : Inputs) (call : Call) (reply : EventReply) (end : SharedOutcome) → shared_next s g ≡ Invokes call
-    → fits call reply ≡ true → reply ≢ replies.Bus arb_replies.Denied → shared_next s (Some reply ∷ g) ≡ Returns end
+    → fits_call call reply ≡ true → reply ≢ replies.Bus arb_replies.Denied → shared_next s (Some reply ∷ g) ≡ Returns end
     → GoodEnd reply end (shared_arb_reply s (Some reply ∷ g))
 ends_well s g call reply end made fit good ends = ends_at s (progress_of s g) call reply end (standing s g) made fit good ends
 

@@ -8,7 +8,7 @@ use Rattle.vme_memory.specs.Boards.{Board}
 use Rattle.vme_memory.specs.Steps.{Command}
 use Rattle.vme_memory.specs.Locals.{command_given}
 use Rattle.vme_arbiter.specs.Requests.{bus_request}
-use Rattle.vme_arbiter.specs.Arbitration.{Arbitration, holds, can_ask, lawful_ask, ask_step, bus_after_release, next_of, done_step}
+use Rattle.vme_arbiter.specs.Arbitration.{Arbitration, holds, can_ask, lawful_ask, ask_step, bus_after_release, next_granted, done_step}
 use Rattle.vme_core.specs.declared.event.EventReply.{EventReply}
 use Rattle.vme_core.specs.declared.event.EventReply.TheVariants as replies
 use Rattle.vme_core.specs.CountedStates.{CountedState}
@@ -131,7 +131,7 @@ module _ (config : Configuration) (lawful : IsLawful config) where
         shown (option_and_then (grant_to config new) new.holder) (own == b && true) bus ≡ driven new)
     done_busy bus own own_there =
         elim (cases_Bool (holds bus (slot_at config own))) [
-          | inl held ↦ rw held (after_grant bus (bus_after_release (next_of bus) bus) (own == b && true) (λ free. freed held))
+          | inl held ↦ rw held (after_grant bus (bus_after_release (next_granted bus) bus) (own == b && true) (λ free. freed held))
           | inr idle ↦ rw idle (after_grant bus bus (own == b && true) (λ free. kept free))
         ]
       where

@@ -7,7 +7,7 @@ use Rattle.std.proofs.lemmas.Option.{same_Some}
 use Rattle.vme_arbiter.specs.declared.command.ArbCmd.TheVariants as commands
 use Rattle.vme_arbiter.specs.declared.command.ArbReply.TheVariants as arb_replies
 use Rattle.vme_arbiter.specs.Requests.{BusRequest, bus_request}
-use Rattle.vme_arbiter.specs.Arbitration.{Arbitration, holds, pends, can_ask, lawful_ask, ask_step, bus_after_release, next_of, done_step}
+use Rattle.vme_arbiter.specs.Arbitration.{Arbitration, holds, pends, can_ask, lawful_ask, ask_step, bus_after_release, next_granted, done_step}
 use Rattle.vme_core.specs.declared.event.EventReply.{EventReply}
 use Rattle.vme_core.specs.declared.event.EventReply.TheVariants as replies
 use Rattle.vme_core.specs.Runs.{Machine}
@@ -106,7 +106,7 @@ module _ (config : Configuration) (lawful : IsLawful config) where
   request_grants (replies.Board reply) bus g is = absurd (cc is)
 
   -- after a release the bus is granted to a slot whose request was pending
-  released_to : (bus : Arbitration) (next : Option BusRequest) (slot : ℕ) → next_of bus ≡ next → (bus_after_release next bus).holder ≡ Some slot
+  released_to : (bus : Arbitration) (next : Option BusRequest) (slot : ℕ) → next_granted bus ≡ next → (bus_after_release next bus).holder ≡ Some slot
       → pends bus slot ≡ true
   released_to bus None slot is held = absurd (cc held)
   released_to bus (Some r) slot is held =
@@ -114,7 +114,7 @@ module _ (config : Configuration) (lawful : IsLawful config) where
 
   -- a release by the holder grants the bus to a slot whose request was pending
   done_to : (bus : Arbitration) (own slot : ℕ) → holds bus own ≡ true → (done_step bus own).0.holder ≡ Some slot → pends bus slot ≡ true
-  done_to bus own slot held is = released_to bus (next_of bus) slot refl (rw held at is)
+  done_to bus own slot held is = released_to bus (next_granted bus) slot refl (rw held at is)
 
   -- a grant is to the slot that requests the bus in the event, or to one whose request was pending
   asked_or_waits : (before after : Machine) (own : ℕ) (activity : Activity) (reply : EventReply) (call : Call) (g : Grant) → own < length config.boards

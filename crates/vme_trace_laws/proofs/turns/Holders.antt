@@ -7,7 +7,7 @@ use Rattle.std.proofs.lemmas.Option.{same_Some}
 use Rattle.std.proofs.lemmas.List.Elements.{All-nil, All-cons, All-head, All-tail, All-filter}
 use Rattle.vme_memory.specs.Locals.{command_given}
 use Rattle.vme_arbiter.specs.Requests.{BusRequest, bus_request, with_request}
-use Rattle.vme_arbiter.specs.Arbitration.{Arbitration, holds, can_ask, lawful_ask, ask_step, bus_after_release, next_of, done_step}
+use Rattle.vme_arbiter.specs.Arbitration.{Arbitration, holds, can_ask, lawful_ask, ask_step, bus_after_release, next_granted, done_step}
 use Rattle.vme_core.specs.declared.event.EventReply.{EventReply}
 use Rattle.vme_core.specs.declared.event.EventReply.TheVariants as replies
 use Rattle.vme_core.specs.CountedStates.{CountedState}
@@ -88,7 +88,7 @@ module _ (config : Configuration) (lawful : IsLawful config) where
       ]
 
   -- after a release of the bus
-  release_seated : (bus : Arbitration) (next : Option BusRequest) → next_of bus ≡ next → IsSeated bus → IsSeated (bus_after_release next bus)
+  release_seated : (bus : Arbitration) (next : Option BusRequest) → next_granted bus ≡ next → IsSeated bus → IsSeated (bus_after_release next bus)
   release_seated bus None is seated = record { holder = tt; pending = seated.pending }
   release_seated bus (Some next) is seated = record {
     holder = all_found (λ r. HasBoard r.slot) _ bus.pending next is seated.pending;
@@ -99,7 +99,7 @@ module _ (config : Configuration) (lawful : IsLawful config) where
   done_seated : (bus : Arbitration) (slot : ℕ) → IsSeated bus → IsSeated (done_step bus slot).0
   done_seated bus slot seated =
       elim (cases_Bool (holds bus slot)) [
-        | inl held ↦ rw held (release_seated bus (next_of bus) refl seated)
+        | inl held ↦ rw held (release_seated bus (next_granted bus) refl seated)
         | inr idle ↦ rw idle seated
       ]
 

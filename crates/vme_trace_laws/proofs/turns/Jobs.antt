@@ -23,7 +23,7 @@ use Rattle.vme_shared.specs.declared.request.SharedRequest.{SharedRequest}
 use Rattle.vme_shared.specs.declared.request.SharedRequest.TheVariants as asked
 use Rattle.vme_shared.specs.Mailboxes.{shared_refusal, stage_request}
 use Rattle.vme_shared.specs.Steps.{first_stage, step_after}
-use Rattle.vme_shared.specs.Tables.{SharedJob, transfer_job, stage_job}
+use Rattle.vme_shared.specs.Tables.{SharedJob, checked_job, stage_job}
 use Rattle.vme_shared.specs.Machine.{stage_fresh, stage_called, current_stepped, current_by, current_after}
 use Rattle.vme_grammar.specs.declared.line.Line.{Line}
 use Rattle.vme_grammar.specs.declared.line.Line.TheVariants as lines
@@ -72,7 +72,7 @@ module _ (board slot level : ℕ) where
   IsOwnStage (Err fault) = Unit {0}
 
   -- the transfer of a lock or a mailbox is of its slot and level
-  stage_own : (s : SharedJob) (transfer : Result Transfer CycleFault) → s.slot ≡ slot → s.level ≡ level → IsOwnStage (transfer_job s transfer)
+  stage_own : (s : SharedJob) (transfer : Result Transfer CycleFault) → s.slot ≡ slot → s.level ≡ level → IsOwnStage (checked_job s transfer)
   stage_own s (Ok t) slots levels = (slots, levels)
   stage_own s (Err fault) slots levels = tt
 

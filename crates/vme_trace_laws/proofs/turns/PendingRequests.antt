@@ -9,7 +9,7 @@ use Rattle.std.proofs.lemmas.Option.{same_Some}
 use Rattle.vme_memory.specs.Locals.{command_given}
 use Rattle.vme_arbiter.specs.declared.command.ArbReply.TheVariants as arb_replies
 use Rattle.vme_arbiter.specs.Requests.{BusRequest, bus_request, with_request, without_slot}
-use Rattle.vme_arbiter.specs.Arbitration.{Arbitration, holds, pends, can_ask, lawful_ask, ask_step, bus_after_release, next_of, done_step}
+use Rattle.vme_arbiter.specs.Arbitration.{Arbitration, holds, pends, can_ask, lawful_ask, ask_step, bus_after_release, next_granted, done_step}
 use Rattle.vme_arbiter.specs.Orderly as arbiter
 use Rattle.vme_arbiter.proofs.lemmas.Orderly.{orderly-opening}
 use Rattle.vme_core.specs.declared.event.EventReply.{EventReply}
@@ -178,7 +178,7 @@ module _ (config : Configuration) (lawful : IsLawful config) where
     other_waits found false v w none same = rw none same
 
     -- a release that frees the bus, or grants it to the next slot
-    release_waits : (bus : Arbitration) (own : Bool) (next : Option BusRequest) (v : Value) → next_of bus ≡ next → Waits bus v
+    release_waits : (bus : Arbitration) (own : Bool) (next : Option BusRequest) (v : Value) → next_granted bus ≡ next → Waits bus v
         → (let new = bus_after_release next bus in
         Waits new (shown (option_and_then (grant_to config new) new.holder) (own && false) v))
     release_waits bus own None v is waits = quiet_waits own (bus_after_release None bus) v waits
@@ -201,7 +201,7 @@ module _ (config : Configuration) (lawful : IsLawful config) where
     done_waits : (bus : Arbitration) (own : ℕ) (mine : Bool) (v : Value) → holds bus (slot_at config own) ≡ true → Waits bus v
         → (let new = (done_step bus (slot_at config own)).0 in
         Waits new (shown (option_and_then (grant_to config new) new.holder) (mine && false) v))
-    done_waits bus own mine v held waits = rw held (release_waits bus mine (next_of bus) v refl waits)
+    done_waits bus own mine v held waits = rw held (release_waits bus mine (next_granted bus) v refl waits)
 
     -- a step and what it shows of the line
     abbrev WaitsAfter : Bool → Activity → Value → Machine × EventReply → Type 0

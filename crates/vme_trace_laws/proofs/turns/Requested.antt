@@ -28,7 +28,7 @@ use Rattle.vme_shared.specs.declared.request.SharedRequest.{SharedRequest}
 use Rattle.vme_shared.specs.declared.request.SharedRequest.TheVariants as asked
 use Rattle.vme_shared.specs.Mailboxes.{shared_refusal, stage_request}
 use Rattle.vme_shared.specs.Steps.{first_stage, step_after}
-use Rattle.vme_shared.specs.Tables.{SharedJob, transfer_job, stage_job}
+use Rattle.vme_shared.specs.Tables.{SharedJob, checked_job, stage_job}
 use Rattle.vme_shared.specs.Machine.{stage_fresh, stage_called, current_stepped, current_by, current_after}
 use Rattle.vme_grammar.specs.declared.line.Line.{Line}
 use Rattle.vme_grammar.specs.declared.line.Line.TheVariants as lines
@@ -74,7 +74,7 @@ module _ (map : List Entry) where
 
   -- the transfer of a request of a lock or a mailbox
   shared_requested : (s : SharedJob) (request : Request) (transfer : Result Transfer CycleFault) → transfer_of request ≡ transfer → s.map ≡ map
-      → IsRequestedResult (transfer_job s transfer)
+      → IsRequestedResult (checked_job s transfer)
   shared_requested s request (Ok t) is same =
       (transfer_is_lawful request t is, ap (λ (entries : List Entry). selection_at entries t.am (addr_of t.request)) same)
   shared_requested s request (Err fault) is same = tt
