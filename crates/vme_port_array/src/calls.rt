@@ -9,6 +9,7 @@ use crate::pass::Pass;
 use crate::port_array::PortArray;
 use crate::rule::MarkStep;
 use crate::seats::STRIDE;
+use crate::waking::{NoWaiter, OneWaiter, Waking};
 use crossbeam_utils::Backoff;
 use std::marker::Brand;
 use std::sync::Wait;
@@ -24,7 +25,7 @@ impl<O: Object> PortArray<O> {
     /// # Errors
     /// `Busy` if another pass holds the object, and `Spent` if the object's part of the history has
     /// 2^64 - 1 entries. Neither adds an entry.
-    fn attempt<A: Operation<O>>(
+    fn attempt<A: Operation<O>, K: Waking<O>>(
         &self,
         pass: &mut Pass<O>,
         index: usize,
@@ -46,10 +47,10 @@ impl<O: Object> PortArray<O> {
             return Err(TryFault::Busy);
         }
         let Some(reply) = self.perform_counted(&mut pass.seat, index, asked) else {
-            self.put_unchanged::<Brand>(&mut pass.seat, index);
+            self.put_unchanged::<Brand, K>(&mut pass.seat, index);
             return Err(TryFault::Spent);
         };
-        self.put_entry::<A, Brand, Brand>(&mut pass.seat, pass.who, index, asked, &reply);
+        self.put_entry::<A, Brand, Brand, K>(&mut pass.seat, pass.who, index, asked, &reply);
         Ok(reply)
     }
 
@@ -76,7 +77,34 @@ impl<O: Object> PortArray<O> {
         ensures full { IfSpent result (length (part index pass.new.seen) ≡ 2 ^ 64 - 1) }
         ensures counted { IfOk result (λ _. length (part index pass.new.seen) < 2 ^ 64) }
     {
-        self.attempt(pass, index, &CommandRef { cmd }, Taking::Alone)
+        self.attempt::<_, OneWaiter>(pass, index, &CommandRef { cmd }, Taking::Alone)
+    }
+
+    /// Performs one operation on the object at an index if no other pass holds it, and returns the
+    /// reply. It never waits, and wakes no call: all calls of the array must be of this kind, or a
+    /// call that waits may sleep for ever.
+    ///
+    /// # Errors
+    /// `Busy` if another pass holds the object, and `Spent` if the object's part of the history has
+    /// 2^64 - 1 entries. Neither adds an entry.
+    pub fn try_quietly<A: Operation<O>>(
+        &self,
+        pass: &mut Pass<O>,
+        index: usize,
+        asked: &A,
+    ) -> Result<O::Reply, TryFault>
+        requires array { IsPassOf self.now pass.old }
+        requires index { index < objects_of self.now }
+        ensures pass { IsPassOf self.now pass.new }
+        ensures adds { UnlessBusy result
+            (Adds O.step (opening self.now)
+            (entries_of pass.old.who index (A.command asked.now) result) pass.old pass.new) }
+        ensures busy { IfBusy result (pass.new ≡ pass.old) }
+        ensures shared { IfBusy result (2 ≤ passes_of self.now) }
+        ensures full { IfSpent result (length (part index pass.new.seen) ≡ 2 ^ 64 - 1) }
+        ensures counted { IfOk result (λ _. length (part index pass.new.seen) < 2 ^ 64) }
+    {
+        self.attempt::<A, NoWaiter>(pass, index, asked, Taking::Alone)
     }
 
     /// Marks the word of the object at an index as wanted if it is `TAKEN`, and returns its value
@@ -133,7 +161,7 @@ impl<O: Object> PortArray<O> {
             (entries_of pass.old.who index (A.command asked.now) result) pass.old pass.new }
         ensures counted { HasCount result (length (part index pass.new.seen)) }
     {
-        match self.attempt(pass, index, asked, Taking::Alone) {
+        match self.attempt::<A, OneWaiter>(pass, index, asked, Taking::Alone) {
             Ok(reply) => Ok(reply),
             Err(TryFault::Spent) => Err(Spent),
             Err(TryFault::Busy) => self.call_again(rt, index, asked, pass),
@@ -162,7 +190,7 @@ impl<O: Object> PortArray<O> {
         let backoff = Backoff::new();
         backoff.snooze();
         for _ in 1..TRIES {
-            match self.attempt(pass, index, asked, Taking::Alone) {
+            match self.attempt::<A, OneWaiter>(pass, index, asked, Taking::Alone) {
                 Ok(reply) => return Ok(reply),
                 Err(TryFault::Spent) => return Err(Spent),
                 Err(TryFault::Busy) => backoff.snooze(),
@@ -172,7 +200,7 @@ impl<O: Object> PortArray<O> {
             if self.mark(pass, index) != FREE {
                 self.table.shared.park(rt, index * STRIDE, WANTED as u32);
             }
-            match self.attempt(pass, index, asked, Taking::Wanted) {
+            match self.attempt::<A, OneWaiter>(pass, index, asked, Taking::Wanted) {
                 Ok(reply) => return Ok(reply),
                 Err(TryFault::Spent) => return Err(Spent),
                 Err(TryFault::Busy) => {}

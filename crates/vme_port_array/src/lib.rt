@@ -13,6 +13,7 @@ mod port_array;
 mod rule;
 mod seats;
 mod settle;
+mod waking;
 
 pub use fault::ArrayFault;
 pub use indexed::Indexed;

@@ -10,6 +10,7 @@ ghost use Rattle.vme_port_array.specs.Arrays.{array_id, opening, passes_of, obje
 use crate::indexed::Indexed;
 use crate::port_array::PortArray;
 use crate::rule::{ArrayView, EntryWitness, OpeningWitness, PutStep, TakeStep};
+use crate::waking::Waking;
 use atomic_table::Seat;
 use std::marker::Brand;
 use vme_object::{Object, Operation, next_count};
@@ -65,11 +66,11 @@ impl<O: Object> PortArray<O> {
 
     /// Puts the object at an index back, with the entries `E.entries` appended to the history. If
     /// the object is marked as wanted, it wakes one call that waits for the object.
-    pub(crate) fn put_entries<W: OpeningWitness<O>, E: EntryWitness<O::Cmd, O::Reply>>(
-        &self,
-        seat: &mut Seat<Home<O>, ArrayView<Indexed<O::Cmd>, O::Reply>>,
-        index: usize,
-    )
+    pub(crate) fn put_entries<
+        W: OpeningWitness<O>,
+        E: EntryWitness<O::Cmd, O::Reply>,
+        K: Waking<O>,
+    >(&self, seat: &mut Seat<Home<O>, ArrayView<Indexed<O::Cmd>, O::Reply>>, index: usize)
         requires array { seat.old.table_id ≡ array_id self.now }
         requires index { index < objects_of self.now }
         requires opened { W.opened (opening self.now) (passes_of self.now) }
@@ -83,23 +84,14 @@ impl<O: Object> PortArray<O> {
             .swap::<PutStep<O, W, E>>(seat, index * STRIDE, FREE)
             == WANTED
         {
-            self.wake(index);
+            K::wake(self, index);
         }
-    }
-
-    /// Wakes one call that waits for the object at an index.
-    #[cold]
-    #[inline(never)]
-    fn wake(&self, index: usize)
-        requires { index < objects_of self.now }
-    {
-        self.table.shared.wake_one(index * STRIDE);
     }
 
     /// Puts the object back unchanged, because its part of the history is full.
     #[cold]
     #[inline(never)]
-    pub(crate) fn put_unchanged<W: OpeningWitness<O>>(
+    pub(crate) fn put_unchanged<W: OpeningWitness<O>, K: Waking<O>>(
         &self,
         seat: &mut Seat<Home<O>, ArrayView<Indexed<O::Cmd>, O::Reply>>,
         index: usize,
@@ -111,7 +103,7 @@ impl<O: Object> PortArray<O> {
         ensures array { seat.new.table_id ≡ seat.old.table_id }
         ensures outcome { HasPut O.step W.opened index [] seat.old.me seat.new.me }
     {
-        self.put_entries::<W, Brand>(seat, index);
+        self.put_entries::<W, Brand, K>(seat, index);
     }
 
     /// Puts the object back with one entry. It uses `who`, `asked` and `reply` in its contract
@@ -120,6 +112,7 @@ impl<O: Object> PortArray<O> {
         A: Operation<O>,
         W: OpeningWitness<O>,
         E: EntryWitness<O::Cmd, O::Reply>,
+        K: Waking<O>,
     >(
         &self,
         seat: &mut Seat<Home<O>, ArrayView<Indexed<O::Cmd>, O::Reply>>,
@@ -140,6 +133,6 @@ impl<O: Object> PortArray<O> {
             (entry who (indexed index (A.command asked.now)) reply.now ∷ []) seat.old.me
             seat.new.me }
     {
-        self.put_entries::<W, E>(seat, index);
+        self.put_entries::<W, E, K>(seat, index);
     }
 }
