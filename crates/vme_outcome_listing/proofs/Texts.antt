@@ -5,7 +5,7 @@ use Rattle.std.specs.List.{flat_map, range_with_len}
 use Rattle.std.proofs.lemmas.List.{append-nil, drop_more, drop_all, length-map}
 use Rattle.std.proofs.lemmas.Option.{slice_get_within, slice_get_cases, get_or_from_slice_get, slice_get-map, same_Some}
 use Rattle.vme_memory.specs.Boards.{Board}
-use Rattle.vme_report.specs.Texts.{replies_text, row, row_text, row_count, memory_text}
+use Rattle.vme_report.specs.Texts.{replies_text, dump_row, row_text, row_count, memory_text}
 use Rattle.vme_script.specs.ReplyTexts.{line_text}
 use Rattle.vme_script.specs.declared.script.ScriptLine.{ScriptLine}
 use Rattle.vme_shared.specs.declared.reply.LineReply.{LineReply}
@@ -178,28 +178,28 @@ replies_done slot script ended j text whole past so_far =
 
 -- the text of the rows from a row on begins with that of its own row
 rows_next : (slot i : ℕ) (bytes : List ℕ) → i < row_count bytes
-    → flat_map (λ k. row_text slot (16 * k) (row bytes k)) (range_with_len i (row_count bytes - i))
-    ≡ row_text slot (16 * i) (row bytes i) ++ flat_map (λ k. row_text slot (16 * k) (row bytes k)) (range_with_len (i + 1) (row_count bytes - (i + 1)))
-rows_next slot i bytes within = ap (λ (k : ℕ). flat_map (λ k. row_text slot (16 * k) (row bytes k)) (range_with_len i k)) one
+    → flat_map (λ k. row_text slot (16 * k) (dump_row bytes k)) (range_with_len i (row_count bytes - i))
+    ≡ row_text slot (16 * i) (dump_row bytes i) ++ flat_map (λ k. row_text slot (16 * k) (dump_row bytes k)) (range_with_len (i + 1) (row_count bytes - (i + 1)))
+rows_next slot i bytes within = ap (λ (k : ℕ). flat_map (λ k. row_text slot (16 * k) (dump_row bytes k)) (range_with_len i k)) one
   where
     one : row_count bytes - i ≡ suc (row_count bytes - (i + 1))
     one = omega (arith, within)
 
 -- the text of one row more
-pub rows_step : (slot i : ℕ) (bytes own before after whole : List ℕ) → i < row_count bytes → own ≡ row bytes i
+pub rows_step : (slot i : ℕ) (bytes own before after whole : List ℕ) → i < row_count bytes → own ≡ dump_row bytes i
     → after ≡ before ++ row_text slot (16 * i) own
-    → before ++ flat_map (λ k. row_text slot (16 * k) (row bytes k)) (range_with_len i (row_count bytes - i)) ≡ whole
-    → after ++ flat_map (λ k. row_text slot (16 * k) (row bytes k)) (range_with_len (i + 1) (row_count bytes - (i + 1))) ≡ whole
+    → before ++ flat_map (λ k. row_text slot (16 * k) (dump_row bytes k)) (range_with_len i (row_count bytes - i)) ≡ whole
+    → after ++ flat_map (λ k. row_text slot (16 * k) (dump_row bytes k)) (range_with_len (i + 1) (row_count bytes - (i + 1))) ≡ whole
 rows_step slot i bytes own before after whole within is added so_far =
-    one_more before after (row_text slot (16 * i) (row bytes i))
-    (flat_map (λ k. row_text slot (16 * k) (row bytes k)) (range_with_len (i + 1) (row_count bytes - (i + 1))))
-    (flat_map (λ k. row_text slot (16 * k) (row bytes k)) (range_with_len i (row_count bytes - i))) whole
+    one_more before after (row_text slot (16 * i) (dump_row bytes i))
+    (flat_map (λ k. row_text slot (16 * k) (dump_row bytes k)) (range_with_len (i + 1) (row_count bytes - (i + 1))))
+    (flat_map (λ k. row_text slot (16 * k) (dump_row bytes k)) (range_with_len i (row_count bytes - i))) whole
     (added ∙ ap (λ (r : List ℕ). before ++ row_text slot (16 * i) r) is) (rows_next slot i bytes within) so_far
 
 -- past the last row the text is whole
 pub rows_done : (slot i : ℕ) (bytes text whole : List ℕ) → row_count bytes ≤ i
-    → text ++ flat_map (λ k. row_text slot (16 * k) (row bytes k)) (range_with_len i (row_count bytes - i)) ≡ whole → text ≡ whole
+    → text ++ flat_map (λ k. row_text slot (16 * k) (dump_row bytes k)) (range_with_len i (row_count bytes - i)) ≡ whole → text ≡ whole
 rows_done slot i bytes text whole past so_far =
     let none : row_count bytes - i ≡ 0 = omega (arith, past) in
     sym (append-nil text)
-    ∙ ap (λ (k : ℕ). text ++ flat_map (λ k. row_text slot (16 * k) (row bytes k)) (range_with_len i k)) (sym none) ∙ so_far
+    ∙ ap (λ (k : ℕ). text ++ flat_map (λ k. row_text slot (16 * k) (dump_row bytes k)) (range_with_len i k)) (sym none) ∙ so_far

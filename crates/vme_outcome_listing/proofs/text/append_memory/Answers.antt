@@ -1,5 +1,5 @@
 use Rattle.std.proofs.Common.{◌≡◌, ◌<◌, ◌≤◌, ◌∙◌, arith}
-use Rattle.vme_report.specs.Texts.{row, row_count}
+use Rattle.vme_report.specs.Texts.{dump_row, row_count}
 use Rattle.vme_outcome_listing.proofs.Texts.{rows_step, rows_done}
 use Rattle.vme_outcome_listing.proofs.text.append_memory.Goals as goal
 
@@ -7,7 +7,7 @@ pub loop-row-preserved : goal.loop-row-preserved
 loop-row-preserved c =
     let bytes = c.args.memory.now.bytes in
     let within : c.loop-row.row < row_count bytes = omega (arith, c.loop-row-test.true, c.div_ceil-row-end.ensures, c.size.ensures.value) in
-    let own : c.as_slice.result.now ≡ row bytes c.loop-row.row = c.as_slice.ensures.value ∙ c.row.ensures in
+    let own : c.as_slice.result.now ≡ dump_row bytes c.loop-row.row = c.as_slice.ensures.value ∙ c.row.ensures in
     rows_step c.args.slot c.loop-row.row bytes c.as_slice.result.now c.loop-row.text.items c.append_row.new.text.items _ within own
     c.in_ok-append_row.ensures c.loop-row.invariant
 
