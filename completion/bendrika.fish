@@ -31,6 +31,7 @@ complete -c bendrika -n '__fish_seen_subcommand_from outcomes' -l lines -x -d 'L
 complete -c bendrika -n '__fish_seen_subcommand_from outcomes' -l show -x -d 'Print the replies to these lines as a table, with a schedule each'
 complete -c bendrika -n '__fish_seen_subcommand_from outcomes' -s q -l quiet -d 'Print no outcome, but the conditions and the number of outcomes'
 complete -c bendrika -n '__fish_seen_subcommand_from outcomes' -l limit -x -d 'Explore at most N states [default: 1000000]'
+complete -c bendrika -n '__fish_seen_subcommand_from outcomes' -l memory -x -d 'Keep no more states than fit in so many bytes; three quarters of the free memory without it'
 complete -c bendrika -n '__fish_seen_subcommand_from outcomes' -l progress -d 'Report on standard error when 10000, 100000, .. states are passed'
 complete -c bendrika -n '__fish_seen_subcommand_from outcomes' -l json -d 'Print one JSON object a line'
 complete -c bendrika -n '__fish_seen_subcommand_from outcomes' -s h -l help -d 'Print help'

@@ -27,6 +27,8 @@ pub(crate) enum Kind {
     Number(&'static str),
     /// An option with a number of states, 1 to 100,000,000, which is this one by default.
     StateCount(&'static str),
+    /// An option with a number of bytes, 1 to 10^15.
+    ByteCount,
 }
 
 /// A word of a subcommand: a value, or an option.
@@ -203,7 +205,7 @@ static SERVE: [Word; 1] = [Word {
 }];
 
 /// The words of `bendrika outcomes`.
-static OUTCOMES: [Word; 9] = [
+static OUTCOMES: [Word; 10] = [
     FILE,
     Word {
         name: "never",
@@ -240,6 +242,12 @@ static OUTCOMES: [Word; 9] = [
         value: "N",
         kind: Kind::StateCount("1000000"),
         help: "Explore at most N states",
+    },
+    Word {
+        name: "memory",
+        value: "BYTES",
+        kind: Kind::ByteCount,
+        help: "Keep no more states than fit in so many bytes; three quarters of the free memory without it",
     },
     Word {
         name: "progress",

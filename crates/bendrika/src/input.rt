@@ -66,7 +66,7 @@ pub(crate) fn input_of(rt: &HostRuntime, path: &str, limit: usize) -> Result<Inp
 }
 
 /// Reads a file to its end or to one byte past the limit.
-fn file_at(rt: &HostRuntime, path: &str, limit: usize) -> Result<Input, Fault>
+pub(crate) fn file_at(rt: &HostRuntime, path: &str, limit: usize) -> Result<Input, Fault>
     requires { limit < 2 ^ 32 }
 {
     match File::open(rt, path) {

@@ -16,6 +16,7 @@ mod fault;
 mod forms;
 mod gathered;
 mod input;
+mod memory;
 mod outcomes;
 mod outcomes_json;
 mod page;

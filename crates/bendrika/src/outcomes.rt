@@ -2,6 +2,7 @@
 use crate::fault::{Fault, printed};
 use crate::gathered::Gathered;
 use crate::input::{STANDARD_INPUT, name_of, read_file, refuse};
+use crate::memory::{free_bytes, states_within};
 use crate::outcomes_json::{json_limit, json_of};
 use crate::status::Status;
 use clap::ArgMatches;
@@ -11,10 +12,14 @@ use vme_check::shown_name;
 use vme_engines::ProgramFault;
 use vme_io::{Io, SliceSource};
 use vme_outcome_listing::{Asked, Condition, Form, Kept, Kind, OutcomesFault, outcomes_engine};
-use vme_script::{Config, Line};
+use vme_script::{Config, ConfigFault, Line};
 
 /// The numbers of states at which a search says how far it is, if the words ask for it.
 const STAGES: [usize; 4] = [10_000, 100_000, 1_000_000, 10_000_000];
+
+/// The most attempts of a line that a search follows in a row: an outcome then takes at most some
+/// milliseconds.
+const MANY: u32 = 10_000;
 
 /// The conditions that the words state, each with its text.
 #[derive(Drop)]
@@ -109,6 +114,15 @@ fn list_file(
     file: &[u8],
 ) -> Result<Status, Fault> {
     let json = words.get_flag("json");
+    let bytes = match words.get_one::<usize>("memory") {
+        Some(bytes) => bytes as u64,
+        None => free_bytes(rt)?,
+    };
+    let Some(fitting) = states_of_file(rt.alloc(), file, bytes)? else {
+        return refuse_attempts(rt, name, json);
+    };
+    let limit = asked.limit;
+    let asked = &asked.within(limit.min(fitting));
     let search = Search {
         name,
         asked,
@@ -144,28 +158,47 @@ fn list_file(
             Ok(Status::WrongWords)
         }
         Err(OutcomesFault::Limit) => {
-            let limit = asked.limit;
-            let fewer = if has_attempts(rt.alloc(), file) {
-                "set `tries = 2` in the file, "
-            } else {
-                ""
-            };
             if json {
-                printed(rt, json_limit(rt.alloc(), name, limit)?.as_str())?;
+                printed(rt, json_limit(rt.alloc(), name, asked.limit)?.as_str())?;
             }
-            let _ = eprintln!(rt;
-                "bendrika: more than {limit} states: {fewer}write fewer lines, or raise --limit"
-            );
+            report_limit(rt, asked.limit, (fitting < limit).then_some(bytes));
             Ok(Status::Limit)
         }
     }
 }
 
-/// Returns whether a line of a configuration file may make more than one attempt.
-fn has_attempts(alloc: Global, file: &[u8]) -> bool {
-    let Ok(config) = Config::read(alloc, file) else {
+/// Reports on standard error that there are more states than the limit, and whether that is what fits
+/// in so many bytes of memory.
+fn report_limit(rt: &HostRuntime, limit: usize, bytes: Option<u64>) {
+    if let Some(bytes) = bytes {
+        let _ = eprintln!(rt;
+            "bendrika: more than {limit} states, which fill {bytes} bytes: make boards smaller, write fewer lines, or raise --memory"
+        );
+        return;
+    }
+    let _ = eprintln!(rt;
+        "bendrika: more than {limit} states: write fewer lines, or raise --limit"
+    );
+}
+
+/// Ends a search whose lines may make more attempts than it follows in a row.
+fn refuse_attempts(rt: &HostRuntime, name: &str, json: bool) -> Result<Status, Fault> {
+    if json {
+        printed(rt, json_limit(rt.alloc(), name, 0)?.as_str())?;
+    }
+    let name = shown_name(rt.alloc(), name)?;
+    let most = MANY;
+    let _ = eprintln!(rt;
+        "bendrika: {name}: a line may make more than {most} attempts: set a smaller `tries` in the file"
+    );
+    Ok(Status::Limit)
+}
+
+/// Returns whether a line may make more attempts than a search follows in a row.
+fn has_many_attempts(config: &Config) -> bool {
+    if config.tries() <= MANY {
         return false;
-    };
+    }
     for board in 0..config.boards() {
         let script = config.script(board);
         for line in 0..script.len() {
@@ -179,6 +212,22 @@ fn has_attempts(alloc: Global, file: &[u8]) -> bool {
         }
     }
     false
+}
+
+/// Returns how many states of a configuration file fit in so many bytes, or `None` if a line may make
+/// too many attempts; any number, if the file is no configuration, which the search reports.
+fn states_of_file(alloc: Global, file: &[u8], bytes: u64) -> Result<Option<usize>, AllocError> {
+    match Config::read(alloc, file) {
+        Ok(config) => {
+            if has_many_attempts(&config) {
+                return Ok(None);
+            }
+            let states = states_within(alloc, &config, bytes)?;
+            Ok(Some(states))
+        }
+        Err(ConfigFault::OutOfMemory) => Err(AllocError),
+        Err(_) => Ok(Some(usize::MAX)),
+    }
 }
 
 /// Runs the engine on the bytes of a file. As JSON, it prints what the engine writes as objects.

@@ -9,6 +9,9 @@ pub(crate) const VERSION: &str = "1.0.0";
 /// The greatest number of states that `--limit` of `outcomes` takes.
 const MOST_STATES: i64 = 100_000_000;
 
+/// The greatest number of bytes that `--memory` takes.
+const MOST_BYTES: i64 = 1_000_000_000_000_000;
+
 /// Returns the parser of the program's words.
 pub(crate) fn program<'a>(alloc: Global) -> Result<Command<'a>, AllocError> {
     let mut program = Command::new(alloc, "bendrika")
@@ -53,49 +56,40 @@ fn argument<'a>(alloc: Global, word: &Word) -> Result<Arg<'a>, AllocError> {
                 .num_args(0..)
                 .action(ArgAction::Append),
         ),
-        Kind::Flag => Ok(named.long(word.name).action(ArgAction::SetTrue)),
-        Kind::ShortFlag(letter) => Ok(
-            named
-                .short(letter)
-                .long(word.name)
-                .action(ArgAction::SetTrue),
-        ),
-        Kind::ExclusiveFlag(other) => named
-            .long(word.name)
-            .action(ArgAction::SetTrue)
-            .conflicts_with(other),
-        Kind::Texts => Ok(
-            named
-                .long(word.name)
-                .value_name(word.value)
-                .action(ArgAction::Append),
-        ),
-        Kind::Text => Ok(
-            named
-                .long(word.name)
-                .value_name(word.value)
-                .action(ArgAction::Set),
-        ),
+        _ => option(named.long(word.name), word),
+    }
+}
+
+/// Returns the parser of an option, which has its long name already.
+fn option<'a>(named: Arg<'a>, word: &Word) -> Result<Arg<'a>, AllocError> {
+    match word.kind {
+        Kind::Texts => Ok(named.value_name(word.value).action(ArgAction::Append)),
+        Kind::Text => Ok(named.value_name(word.value).action(ArgAction::Set)),
         Kind::ExclusiveText(other) => named
-            .long(word.name)
             .value_name(word.value)
             .action(ArgAction::Set)
             .conflicts_with(other),
-        Kind::Number(default) => Ok(
-            named
-                .long(word.name)
-                .value_name(word.value)
-                .action(ArgAction::Set)
-                .value_parser(value_parser!(usize))
-                .default_value(default),
-        ),
+        Kind::Number(default) => Ok(numbered(named, word).default_value(default)),
         Kind::StateCount(default) => Ok(
-            named
-                .long(word.name)
-                .value_name(word.value)
-                .action(ArgAction::Set)
+            numbered(named, word)
                 .value_parser(value_parser!(usize).range(1..=MOST_STATES))
                 .default_value(default),
         ),
+        Kind::ByteCount => Ok(numbered(named, word).value_parser(value_parser!(usize).range(
+            1..=MOST_BYTES,
+        ))),
+        Kind::ShortFlag(letter) => Ok(named.short(letter).action(ArgAction::SetTrue)),
+        Kind::ExclusiveFlag(other) => named.action(ArgAction::SetTrue).conflicts_with(other),
+        Kind::Flag | Kind::Required | Kind::Optional | Kind::OneOrMore | Kind::AnyNumber => {
+            Ok(named.action(ArgAction::SetTrue))
+        }
     }
+}
+
+/// Returns the parser of an option with a number.
+fn numbered<'a>(named: Arg<'a>, word: &Word) -> Arg<'a> {
+    named
+        .value_name(word.value)
+        .action(ArgAction::Set)
+        .value_parser(value_parser!(usize))
 }
