@@ -1,0 +1,4 @@
+pub mod Lists
+pub mod Turns
+pub mod Objects
+pub mod Gathered

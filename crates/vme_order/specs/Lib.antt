@@ -1,0 +1,3 @@
+pub mod Systems
+pub mod Orders
+pub mod ArrayOrders

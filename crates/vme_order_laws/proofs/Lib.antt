@@ -1,0 +1,7 @@
+mod Processors
+mod Traces
+mod Machines
+mod EntryKinds
+mod Orders
+mod Reports
+mod Texts
