@@ -15,6 +15,10 @@ from edits import Edit, edited, read_edit  # noqa: E402
 KINDS = ["pri", "rrs", "sgl"]
 VERDICT = re.compile(r"^(\d+) passed, (\d+) failed$", re.MULTILINE)
 COMMANDS, REQUESTS = 200, 3000
+# Blocks of eight-byte data, of which bench/generate.py writes few: one leaves the board, and one has no board.
+EIGHT_BYTES = ["bw 08 00000010 8 0102030405060708", "br 0c 00000008 8 3", "bf 0c 00000100 8 30 a1b2c3d4e5f60718",
+               "r 09 00000104 4", "br 08 00000100 8 32", "br 08 00000ff8 8 2",
+               "bw 08 00000ff8 8 000102030405060708090a0b0c0d0e0f", "br 38 00000000 8 2"]
 # The bus timer's model with the ports of a user's timer.
 TIMERS = {
     "v": """`timescale 1ns / 1ps
@@ -129,7 +133,7 @@ def compare(language, log: Path, wanted: list[str]) -> None:
 def masters(folder: Path, languages) -> str:
     """The masters make generated requests over a board as that of `vme cycles`, and their bus logs have its lines of signals."""
     vme, kept, numbers = path_of("vme"), folder / "kept", folder / "numbers"
-    given = "\n".join(output(sys.executable, ROOT / "bench/generate.py", "mixed").splitlines()[:REQUESTS])
+    given = "\n".join(output(sys.executable, ROOT / "bench/generate.py", "mixed").splitlines()[:REQUESTS] + EIGHT_BYTES)
     numbers.write_text(output(HDL / "requests", kept, vme, given=given), encoding="ascii")
     count = len(kept.read_text(encoding="ascii").splitlines())
     wanted = [it for it in run(vme, "cycles", given=kept.read_bytes()).written.splitlines() if it.startswith("am=")]

@@ -1,8 +1,9 @@
 """What a board answers to each transfer of a request, and whom an arbiter grants the bus, by libvme.
 
-Each answer is one of `vme_map_select` and `vme_slave_cycle`, which are proved, with one rule more: a board that only lacks
-read-modify-writes cannot distinguish the lines of a read half from those of a read. So it may answer them, and then drives BERR* in
-the write half."""
+Each answer is one of `vme_map_select`, `vme_slave_cycle` and `vme_arbiter_ask`, which are proved, with three rules more. A board
+that only lacks read-modify-writes cannot distinguish the lines of a read half from those of a read: so it may answer them, and
+then drives BERR* in the write half. A silent board drives nothing where another one drives BERR*. An arbiter with a single level
+never grants another one."""
 
 from __future__ import annotations
 
@@ -16,7 +17,7 @@ find_pyvme.find()
 from pyvme import AddressMap, Arbiter, ArbiterKind, ArbiterReply, Board, BusError, Entry  # noqa: E402
 from pyvme import Lines, NoBoard, Refused, Request, RequestKind  # noqa: E402
 
-NONE, DTACK, BERR, EITHER = 0, 1, 2, 3
+NONE, DTACK, BERR, EITHER, DTACK_OR_NONE = 0, 1, 2, 3, 4
 SLOTS = 21
 
 
@@ -29,11 +30,13 @@ class Transfer(NamedTuple):
 
 
 class ExpectedBoard:
-    """A board with its memory."""
+    """A board with its memory. A silent one drives nothing where it lacks a cycle or its bytes."""
 
-    def __init__(self, space: int, base: int, size: int, supervisory: bool, width: int, uat: bool, blt: bool, rmw: bool) -> None:
+    def __init__(self, space: int, base: int, size: int, supervisory: bool, width: int, uat: bool, blt: bool, rmw: bool,
+                 is_silent: bool = False) -> None:
         self.board = Board(size, width, uat=uat, blt=blt, rmw=rmw)
         self.map = AddressMap([Entry(base, size, space, supervisory)])
+        self.is_silent = is_silent
 
     def selected(self, am: int, addr: int) -> int | None:
         """The offset of an address in the board, or None if the board does not respond."""
@@ -60,13 +63,14 @@ class ExpectedBoard:
                 yield Transfer(request.write_half(got), DTACK, None)
 
     def _refused(self, request: Request, lines: Lines, offset: int) -> Iterator[Transfer]:
-        """The transfers of a datum that the board answers by BERR*."""
+        """The transfers of a datum that the board answers by BERR*, or by nothing."""
+        refused, either = (NONE, DTACK_OR_NONE) if self.is_silent else (BERR, EITHER)
         if request.kind == RequestKind.MODIFY and self._reads(lines, offset):
             old = bytes(self.board.memory[offset : offset + request.n])
-            yield Transfer(lines, EITHER, old)
-            yield Transfer(request.write_half(old), BERR, None)
+            yield Transfer(lines, either, old)
+            yield Transfer(request.write_half(old), refused, None)
         else:
-            yield Transfer(lines, BERR, None)
+            yield Transfer(lines, refused, None)
 
     def _reads(self, lines: Lines, offset: int) -> bool:
         """Whether the board answers these lines as those of a read."""
@@ -86,10 +90,16 @@ class Tenure(NamedTuple):
     holder: int
 
 
+# The slots whose requests at levels 2 to 0 an arbiter of the kind SGL never grants.
+UNGRANTED = 4
+
+
 def tenures(kind: str, count: int, seed: int) -> Iterator[Tenure]:
-    """Random requests and releases of all slots, and the answers of an arbiter: `pri`, `rrs`, or `sgl` with level 3 alone."""
+    """Random requests and releases of all slots, and the answers of an arbiter: `pri`, `rrs`, or `sgl`, which is `pri` for the
+    requests at level 3 and never grants one at another level. Such requests stay; the first of them come on the free bus."""
     arbiter = Arbiter(ArbiterKind.ROTATING if kind == "rrs" else ArbiterKind.PRIORITY)
     draw, waiting, holder = random.Random(seed), {}, 0
+    ungranted: dict[int, int] = {}
     for _ in range(count):
         if holder and (len(waiting) > 8 or draw.random() < 0.45):
             arbiter.done(holder)
@@ -97,9 +107,15 @@ def tenures(kind: str, count: int, seed: int) -> Iterator[Tenure]:
             holder = next((it for it in waiting if arbiter.look(it) == ArbiterReply.GRANTED), 0)
             waiting.pop(holder, None)
         else:
-            slot = draw.choice([it for it in range(1, SLOTS + 1) if it not in waiting and it != holder])
-            level, releases = 3 if kind == "sgl" else draw.randrange(4), False
-            if arbiter.ask(slot, level) == ArbiterReply.GRANTED:
+            free = [it for it in range(1, SLOTS + 1) if it not in waiting and it not in ungranted and it != holder]
+            slot, releases = draw.choice(free), False
+            if kind == "sgl":
+                level = 3 if len(ungranted) == UNGRANTED else 2 - len(ungranted) % 3
+            else:
+                level = draw.randrange(4)
+            if kind == "sgl" and level != 3:
+                ungranted[slot] = level
+            elif arbiter.ask(slot, level) == ArbiterReply.GRANTED:
                 holder = slot
             else:
                 waiting[slot] = level

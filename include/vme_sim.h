@@ -6,7 +6,7 @@
  * Boards.  There are at most 32, of at most 1 MiB together; they live as long as the program. A number that names no board, and a
  *          size that is not possible, is an error, never undefined.
  * Levels.  strobes is DS1*, DS0*, A01, LWORD* from bit 3 down; 0 is low. addr is A31 to A02 with two zeros, as bits: an int of 32
- *          bits may be negative. data is D31 to D00.
+ *          bits may be negative. data is D31 to D00: there is no eight-byte data.
  * Threads. One at a time: the results of a cycle stay until the next one, for vme_sim_data, vme_sim_lanes and vme_sim_moved.
  */
 #ifndef VME_SIM_H
