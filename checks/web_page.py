@@ -5,6 +5,7 @@ from __future__ import annotations
 import base64
 import json
 import pathlib
+import statistics
 import subprocess
 import tempfile
 import time
@@ -14,6 +15,7 @@ from browsers import BROWSERS, Browser
 from harness import ROOT, path_of
 
 WIDE, NARROW = (1440, 1000), (390, 844)
+OPENINGS, SETTLE = 5, 1
 
 
 def native(words: list[str], given: bytes) -> tuple[str, str]:
@@ -61,6 +63,23 @@ class Page:
         """Types at the end of the editor. Returns the milliseconds that the page's script took."""
         return self.browser.run(f"const a = document.getElementById('text'); a.setRangeText({json.dumps(text)}, a.value.length, a.value.length, 'end');"
                                 "const t = performance.now(); a.oninput(); return performance.now() - t;")
+
+
+def first_answers(name: str, url: str) -> tuple[float, float]:
+    """When the first report and the last of the first answers come, in milliseconds from the begin of opening the page. A new
+    browser for each opening, since one that had the page may have kept its compiled modules."""
+    times = []
+    for _ in range(OPENINGS):
+        browser = BROWSERS[name]()
+        try:
+            browser.size(*WIDE, False)
+            time.sleep(SETTLE)
+            page = Page(browser, url)
+            page.open()
+            times.append(browser.run("return ['first answer', 'first more'].map((it) => performance.getEntriesByName(it)[0].startTime)"))
+        finally:
+            browser.close()
+    return statistics.median(it[0] for it in times), statistics.median(it[1] for it in times)
 
 
 def situations(page: Page) -> Iterator[str]:

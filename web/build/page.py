@@ -1,7 +1,8 @@
 """The page, one HTML file of the two packed modules, the examples, the style and the scripts of web/page.
 
-The scripts are modules that import one another by name. The page has one script, so they are joined, each as a function after
-those that it imports, without their `import` lines and the words `export`. The same files give the same bytes."""
+The scripts are modules that import one another by name. The page has one script in its head, one in its body and one for its
+workers, so the modules of each are joined, each as a function after those that it imports, without their `import` lines and the
+words `export`. The same files give the same bytes."""
 
 from __future__ import annotations
 
@@ -44,7 +45,7 @@ def joined(entry: pathlib.Path) -> str:
         texts[path] = f"const {{ {names} }} = (() => {{\n{text}return {{ {names} }};\n}})();\n" if names else f"(() => {{\n{text}}})();\n"
 
     add(entry.resolve())
-    return "'use strict';\n" + "".join(texts.values())
+    return "'use strict';\n{\n" + "".join(texts.values()) + "}\n"
 
 
 def examples() -> list[dict[str, str]]:
@@ -65,22 +66,23 @@ def page(packed: dict[str, bytes]) -> bytes:
     def read(name: str) -> str:
         return (WEB / "page" / name).read_text(encoding="utf-8")
 
-    script = joined(WEB / "page/main.mjs")
+    scripts = {"early": joined(WEB / "page/early.mjs"), "script": joined(WEB / "page/main.mjs")}
     sums = ", ".join(f"{name}.wasm {hashlib.sha256(gzip.decompress(data)).hexdigest()[:16]}" for name, data in sorted(packed.items()))
     parts = {
-        "hash": f"sha256-{base64.b64encode(hashlib.sha256(script.encode()).digest()).decode()}",
+        "hashes": " ".join(f"'sha256-{base64.b64encode(hashlib.sha256(it.encode()).digest()).decode()}'" for it in scripts.values()),
         "style": read("style.css"),
         "version": (ROOT / "VERSION").read_text(encoding="utf-8").strip(),
         "sums": f"{sums}.",
-        "examples": json.dumps(examples(), ensure_ascii=False).replace("</", "<\\/"),
+        "examples": json.dumps(examples()).replace("</", "<\\/"),
         "worker": joined(WEB / "page/worker.mjs"),
-        "script": script,
+        **scripts,
         **{name: base64.b64encode(data).decode() for name, data in packed.items()},
     }
-    for name in ("worker", "script"):
+    for name in ("worker", *scripts):
         if "</script" in parts[name]:
             raise ValueError(f"the {name} of the page would end its element")
     text = re.sub(r"\{\{(\w+)\}\}", lambda it: parts.pop(it[1]), read("page.html"))
     if parts:
         raise ValueError(f"page.html has no place for {', '.join(parts)}")
-    return text.encode()
+    # A browser reads a text of ASCII alone in less time.
+    return text.encode("ascii")

@@ -138,12 +138,14 @@ function placed() {
 }
 
 function put(text, input) {
+  const wasEmpty = value === '';
   value = text.replace(/\r\n?/g, '\n');
   loaded = input;
   index();
   showWhole();
   area.setSelectionRange(0, 0);
-  area.scrollTop = area.scrollLeft = 0;
+  // To set them lays out the page.
+  if (!wasEmpty) area.scrollTop = area.scrollLeft = 0;
   mark([]);
   placed();
 }

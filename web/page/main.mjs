@@ -2,7 +2,7 @@
 import { $, announce, decoder, encoder, milliseconds } from './dom.mjs';
 import { linkRequests, linkScripts, point, showAnswer, showDiagrams, showFindings } from './answers.mjs';
 import { bytes, currentLine, editor, name, putBytes, text } from './editor.mjs';
-import { Engine, modules } from './engine.mjs';
+import { Engine, hasReport } from './engine.mjs';
 import { closeExplanation, learn } from './explain.mjs';
 import { asConfiguration, exampleOf, examples, linked, link, listExamples, openFile, save, say, share } from './links.mjs';
 import { placesOf, probe, requestLines } from './places.mjs';
@@ -15,16 +15,17 @@ const HINTS = {
   file: { answer: 'No line has a reply.', none: 'No turn has an event.', wait: 'The diagrams come once the file has no error.' },
   lines: { answer: 'Write a request line, as w 0d 00000000 5a.', none: 'No line has an event.', wait: 'The diagrams come once each line is well-formed, of at most 1,000 lines.' },
 };
-const quick = new Engine(), guide = new Engine(), reader = new Engine();
+const reporter = new Engine(), checker = new Engine(), guide = new Engine(), reader = new Engine();
 let kind = 'file', view = 'timing', first = 1, lastTime = 0, answered = 0, timer, clock, answers = {};
 
 // ---- Questions and answers.
-function runsOf() {
-  const input = bytes(), range = (from, to) => ['bendrika', 'page', '-', `${from}-${to}`];
+const runsOfVme = (input) => [{ key: 'answer', words: kind === 'file' ? ['vme', 'step', 'FILE'] : ['vme', 'cycles'], input }];
+
+function runsOfBendrika(input) {
+  const range = (from, to) => ['bendrika', 'page', '-', `${from}-${to}`];
   const drawn = kind === 'file' ? input : asConfiguration(), next = first + EVENTS;
   return [
     { key: 'findings', words: ['bendrika', kind === 'file' ? 'check' : 'cycles', '--json', '-'], input },
-    { key: 'answer', words: kind === 'file' ? ['vme', 'step', 'FILE'] : ['vme', 'cycles'], input },
     { key: 'timing', words: range(first, next - 1), input: drawn },
     { key: 'more', words: range(next, next), input: drawn },
   ];
@@ -45,8 +46,8 @@ const show = {
 };
 
 function ask() {
-  let time = 0;
-  const started = performance.now();
+  let time = 0, running = 2;
+  const started = performance.now(), input = bytes();
   for (const id of ['answer', 'timing']) $(id).classList.add('stale');
   clearInterval(clock);
   clock = setInterval(() => {
@@ -55,23 +56,43 @@ function ask() {
     $('state').textContent = `running, ${(passed / 1000).toFixed(1)} s`;
     $('halt').hidden = false;
   }, 100);
-  quick.ask(runsOf(), {
+  const on = {
     got(data) {
       answers[data.key] = data;
       time += data.time;
       show[data.key](data);
+      // checks/web reads when the first ones came.
+      if (!answered) performance.mark(`first ${data.key}`);
+      if (data.key === 'answer') hasReport();
     },
     ended() {
+      if (--running) return;
       rest(milliseconds(time));
       lastTime = time;
-      window.firstAnswer ??= performance.now();
-      findPlaces();
+      if (answered) findPlaces();
+      else learnTexts();
       document.documentElement.dataset.answered = String(++answered);
     },
     failed(why) {
       rest('');
       say(why);
     },
+  };
+  reporter.ask(runsOfVme(input), on);
+  checker.ask(runsOfBendrika(input), on);
+}
+
+// Asks for the texts of all codes, with which the first answers are shown again.
+function learnTexts() {
+  reader.ask([{ key: 'texts', words: ['bendrika', 'explain', '--json'], input: new Uint8Array() }], {
+    got({ out }) {
+      learn(out);
+      for (const key of ['findings', 'answer']) if (answers[key]) show[key](answers[key]);
+      findPlaces();
+      document.documentElement.dataset.learned = 'yes';
+    },
+    ended: () => reader.stop(),
+    failed: say,
   });
 }
 
@@ -82,8 +103,10 @@ function rest(shown) {
 }
 
 function halt() {
-  quick.stop();
+  reporter.stop();
+  checker.stop();
   rest('stopped');
+  if (!answered) learnTexts();
   announce('The run is stopped.');
 }
 
@@ -234,24 +257,13 @@ async function follow() {
 
 // What the tests of the page use.
 window.bendrika = {
-  examples, load, quick, say, link: () => link(kind, view),
+  examples, load, checker, say, link: () => link(kind, view),
   time: () => Object.values(answers).reduce((sum, it) => sum + it.time, 0),
   texts: () => Object.fromEntries(Object.entries(answers).map(([key, it]) => [key, decoder.decode(it.out)])),
   told: () => Object.fromEntries(Object.entries(answers).map(([key, it]) => [key, decoder.decode(it.err)])),
 };
 
-// ---- The begin: the input of the link, and meanwhile the texts of all codes, with which the answers are shown again.
+// ---- The begin.
 listExamples();
-modules.catch((why) => say(`This browser cannot run the programs: ${why.message ?? why}.`));
 follow();
-reader.ask([{ key: 'texts', words: ['bendrika', 'explain', '--json'], input: new Uint8Array() }], {
-  got({ out }) {
-    learn(out);
-    for (const key of ['findings', 'answer']) if (answers[key]) show[key](answers[key]);
-    if (answers.more) findPlaces();
-    document.documentElement.dataset.learned = 'yes';
-  },
-  ended: () => reader.stop(),
-  failed: say,
-});
 window.addEventListener('hashchange', follow);

@@ -1,8 +1,7 @@
-// Runs programs one after another and posts what each wrote. It is given the modules first; then each message is a list of runs.
+// Runs a program with one command line after another and posts what each run wrote. A message has its module and the runs.
 import { runProgram } from '../host.mjs';
 
 const MOST = 16 << 20, INPUT = 5, FULL = 51;
-let modules;
 
 function joined(parts) {
   const all = new Uint8Array(parts.reduce((n, it) => n + it.length, 0));
@@ -15,7 +14,7 @@ function joined(parts) {
 }
 
 // One run over an input, which is standard input and each file. Output past `most` bytes is a failed write.
-function run({ words, input, most = MOST }, told) {
+function run(module, { words, input, most = MOST }, told) {
   const out = [], err = [], started = performance.now();
   let place = 0, written = 0, status = null, failed = '';
   const io = {
@@ -39,7 +38,7 @@ function run({ words, input, most = MOST }, told) {
     close() {},
   };
   try {
-    status = runProgram(modules[words[0]], words, io);
+    status = runProgram(module, words, io);
   } catch (why) {
     failed = String(why.message ?? why);
   }
@@ -47,12 +46,8 @@ function run({ words, input, most = MOST }, told) {
 }
 
 onmessage = ({ data }) => {
-  if (data.modules) {
-    modules = data.modules;
-    return;
-  }
   for (const one of data.runs) {
-    const result = run(one, (told) => postMessage({ id: data.id, key: one.key, told }));
+    const result = run(data.module, one, (told) => postMessage({ id: data.id, key: one.key, told }));
     postMessage({ id: data.id, key: one.key, ...result }, [result.out.buffer]);
   }
   postMessage({ id: data.id, done: true });
