@@ -61,7 +61,7 @@ address_changes t =
     change_if t.opens BEGIN (code_of AddressLines) (Number 32 (address_number t.lines))
     ++ (change_if t.clears SECOND (code_of AddressLines) Released
     ++ (change_if (is_wide t) (drive_edge t) (code_of AddressLines)
-        (Number 32 (upper_number t.lines.lanes - upper_number t.lines.lanes % 2))
+    (Number 32 (upper_number t.lines.lanes - upper_number t.lines.lanes % 2))
     ++ (change_if (is_wide t) (edge_of t DATA_RELEASED) (code_of AddressLines) Released
     ++ change_if t.ends (edge_of t ADDRESS_RELEASED) (code_of AddressLines) Released)))
 
