@@ -1,7 +1,8 @@
 //! Runs the scripts of a configuration file, each on a thread of its own, and prints the report, as
 //! `vme run` does: a `Mutex` for each board and one for the arbiter. It knows boards of one level
-//! and lines `m 09 ADDRESS 4 add NUMBER`, `lm OFFSET 4 add NUMBER` and `await 09 ADDRESS BYTES` alone;
-//! with the code 08, which is reserved, the first is refused. `tries` may stand before the boards.
+//! and lines `m 09 ADDRESS 4 add NUMBER`, `lm OFFSET 4 add NUMBER`, `await 09 ADDRESS BYTES` and
+//! `br 0b ADDRESS LENGTH COUNT` alone; with the code 08, which is reserved, the first is refused. A block locks its board for
+//! each datum. `tries` may stand before the boards.
 //!
 //! usage: plain_run FILE
 
@@ -11,6 +12,8 @@ use std::sync::Mutex;
 use std::thread;
 
 const SPINS: u32 = 6;
+
+const HEX_DIGITS: &[u8; 16] = b"0123456789abcdef";
 
 /// The number of attempts at a line where the file states none.
 const TRIES: usize = 1_000;
@@ -31,6 +34,8 @@ enum Way {
 enum Access {
     Add(u32),
     Await(Vec<u8>),
+    /// So many data of this length, one after another.
+    Block { length: usize, count: usize },
 }
 
 struct Line {
@@ -41,6 +46,7 @@ struct Line {
 
 enum Reply {
     Old(u32),
+    Read(Vec<u8>),
     Met,
     Timeout,
     Refused,
@@ -91,6 +97,9 @@ fn line(text: &str) -> Option<Line> {
         ["m", "09", address, "4", "add", added] => (Way::Bus, address, add_of(added)?),
         ["m", "08", address, "4", "add", added] => (Way::Refused, address, add_of(added)?),
         ["lm", offset, "4", "add", added] => (Way::Local, offset, add_of(added)?),
+        ["br", "0b", address, length, count] => {
+            (Way::Bus, address, Access::Block { length: number(length)?, count: number(count)? })
+        }
         ["await", "09", address, bytes] => (Way::Bus, address, Access::Await(hex_bytes(bytes)?)),
         _ => return None,
     };
@@ -152,6 +161,16 @@ fn is_found(board: &Mutex<Board>, who: usize, offset: usize, wanted: &[u8]) -> b
     board.memory[offset..offset + wanted.len()] == *wanted
 }
 
+fn read_block(board: &Mutex<Board>, who: usize, offset: usize, length: usize, count: usize) -> Vec<u8> {
+    let mut bytes = Vec::with_capacity(length * count);
+    for at in (offset..).step_by(length).take(count) {
+        let mut board = board.lock().unwrap();
+        bytes.extend_from_slice(&board.memory[at..at + length]);
+        board.made[who] += 1;
+    }
+    bytes
+}
+
 /// What all threads share.
 struct Shared<'a> {
     tries: usize,
@@ -177,6 +196,10 @@ impl Shared<'_> {
             (Way::Bus, Access::Add(added)) => {
                 self.over_bus(who, line.address, 4, |board, offset| add(board, who, offset, *added)).map(Reply::Old)
             }
+            (_, Access::Block { length, count }) => {
+                let read = |board: &_, offset| read_block(board, who, offset, *length, *count);
+                self.over_bus(who, line.address, length * count, read).map(Reply::Read)
+            }
             (_, Access::Await(wanted)) => self.awaited(who, line.address, wanted),
         }
     }
@@ -195,11 +218,23 @@ impl Shared<'_> {
     }
 }
 
+/// Appends the two digits of a byte, without the formatting through `fmt`.
+fn push_hex(text: &mut String, byte: u8) {
+    for digit in [byte >> 4, byte & 15] {
+        text.push(char::from(HEX_DIGITS[usize::from(digit)]));
+    }
+}
+
 fn report(places: &[Place], boards: Vec<Mutex<Board>>, replies: &[Vec<Option<Reply>>]) -> String {
     let mut text = String::new();
     for (place, replies) in places.iter().zip(replies) {
         for (number, reply) in (1..).zip(replies) {
             let _ = match reply {
+                Some(Reply::Read(bytes)) => {
+                    let _ = write!(text, "{}:{number} read ", place.slot);
+                    bytes.iter().for_each(|byte| push_hex(&mut text, *byte));
+                    writeln!(text)
+                }
                 Some(Reply::Old(old)) => writeln!(text, "{}:{number} old {old:08x}", place.slot),
                 Some(Reply::Met) => writeln!(text, "{}:{number} met", place.slot),
                 Some(Reply::Timeout) => writeln!(text, "{}:{number} timeout", place.slot),
@@ -242,6 +277,6 @@ fn main() -> ExitCode {
         threads.into_iter().map(|thread| thread.join().unwrap()).collect()
     });
     print!("{}", report(&places, boards, &replies));
-    let all_good = replies.iter().flatten().all(|reply| matches!(reply, Some(Reply::Old(_) | Reply::Met)));
+    let all_good = replies.iter().flatten().all(|reply| matches!(reply, Some(Reply::Old(_) | Reply::Read(_) | Reply::Met)));
     ExitCode::from(u8::from(!all_good))
 }

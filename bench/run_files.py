@@ -3,6 +3,8 @@
 COUNTS = [1, 2, 4, 21]
 LINES = 1_000
 OFFSET = 16
+# The bytes of a block, which lie between two addresses that are multiples of it.
+BLOCK = 256
 # As many as a file may state.
 ROUNDS = 1_000_000
 
@@ -11,11 +13,11 @@ def base(board):
     return 0x1000 * board
 
 
-def configuration(count, script):
+def configuration(count, script, size=32):
     """A file of so many boards; `script` gives that of each."""
     tables = []
     for board in range(count):
-        head = f"[[board]]\nslot = {board + 1}\nbase = {base(board):#x}\nsize = 32\n"
+        head = f"[[board]]\nslot = {board + 1}\nbase = {base(board):#x}\nsize = {size}\n"
         tables.append(f'{head}script = """\n{script(board)}"""\n')
     return "".join(tables)
 
@@ -54,6 +56,18 @@ def locking(tries):
     """A file of one board whose processor takes a lock, and then tries to take it again so many times."""
     script = lambda board: f"lock 09 {OFFSET:08x}\n" * 2
     return f"tries = {tries}\nrounds = {ROUNDS}\n{configuration(1, script)}"
+
+
+def reading_blocks(count):
+    """A file of boards whose processors each read blocks of 256 bytes of their own board over the bus: 64 data of four bytes and
+    256 of one, in turn."""
+    lines = lambda at: f"br 0b {at:08x} 4 64\nbr 0b {at:08x} 1 256\n" * (LINES // 2)
+    return configuration(count, lambda board: lines(base(board)), BLOCK)
+
+
+def refused(count):
+    """A file of boards whose processors each have lines that are refused, so that no event happens."""
+    return configuration(count, lambda board: f"m 08 {OFFSET:08x} 4 add 00000001\n" * LINES)
 
 
 def silent(count, size):

@@ -91,6 +91,7 @@ impl Task<'_> {
     /// # Errors
     ///
     /// The fault of the call. The task is unchanged.
+    #[inline(always)]
     fn step_by_board<E, C>(&mut self, caller: &mut C, with: &E) -> Result<bool, C::Fault>
     where
         C: Caller<E>,

@@ -25,6 +25,7 @@ impl<O: Object> PortArray<O> {
     /// # Errors
     /// `Busy` if another pass holds the object, and `Spent` if the object's part of the history has
     /// 2^64 - 1 entries. Neither adds an entry.
+    #[inline(always)]
     fn attempt<A: Operation<O>, K: Waking<O>>(
         &self,
         pass: &mut Pass<O>,
@@ -148,6 +149,7 @@ impl<O: Object> PortArray<O> {
     ///
     /// # Errors
     /// `Spent` if the object's part of the history has 2^64 - 1 entries. No entry is added.
+    #[inline(always)]
     pub fn call_operation<R: Wait, A: Operation<O>>(
         &self,
         rt: &R,
@@ -174,6 +176,8 @@ impl<O: Object> PortArray<O> {
     ///
     /// # Errors
     /// `Spent` if the object's part of the history has 2^64 - 1 entries. No entry is added.
+    #[cold]
+    #[inline(never)]
     fn call_again<R: Wait, A: Operation<O>>(
         &self,
         rt: &R,

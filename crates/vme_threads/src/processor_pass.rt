@@ -85,6 +85,7 @@ impl ProcessorPass {
     ///
     /// # Errors
     /// `Spent` if the board has made 2^64 - 1 steps.
+    #[inline(always)]
     pub(crate) fn call_board<R: Wait, A: Operation<ByteMemory>>(
         &mut self,
         rt: &R,
@@ -215,6 +216,7 @@ impl<R: Wait> Caller<CallContext<'_, R>> for ProcessorPass {
         self.call_board(with.rt, with.ports, board, &CommandRef { cmd })
     }
 
+    #[inline(always)]
     fn transfer_datum(
         &mut self,
         with: &CallContext<'_, R>,
