@@ -44,6 +44,7 @@ impl<O: Object> PortArray<O> {
 
     /// Performs a command on the object that the seat holds, and returns the reply. If the object's
     /// part of the history has 2^64 - 1 entries, it returns `None` and changes nothing.
+    #[inline(always)]
     pub(crate) fn perform_counted<A: Operation<O>>(
         &self,
         seat: &mut Seat<Home<O>, ArrayView<Indexed<O::Cmd>, O::Reply>>,
