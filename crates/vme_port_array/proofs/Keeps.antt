@@ -99,7 +99,7 @@ module _ {S C R : Type 0} (step : S → C → S × R) (starts : List S) where
     Rule = Kept step starts k
 
     -- a step that changes no view, and keeps a free word free and a taken word taken, keeps the rule
-    resting : (s : State (Home S) (ArrayView (Indexed C) R)) (id i : ℕ) (v : ArrayView (Indexed C) R) (c : List (ℕ × Home S)) (new : ℕ) → Rule s → get_elem? s.views id ≡ some v
+    pub resting : (s : State (Home S) (ArrayView (Indexed C) R)) (id i : ℕ) (v : ArrayView (Indexed C) R) (c : List (ℕ × Home S)) (new : ℕ) → Rule s → get_elem? s.views id ≡ some v
         → i < length starts → (slice_index s.words (word_of i) ≡ 0 → new ≡ 0) → (slice_index s.words (word_of i) ≢ 0 → new ≢ 0)
         → Rule (stepped s (word_of i) new id c v keeps)
     resting s id i v c new r there less free taken =

@@ -6,3 +6,4 @@ pub mod Attempts
 pub mod Opens
 pub mod Gathers
 pub mod Settles
+pub mod Comparisons

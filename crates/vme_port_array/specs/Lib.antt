@@ -6,3 +6,4 @@ pub mod Passes
 pub mod Arrays
 pub mod Calls
 pub mod Settlements
+pub mod Comparisons

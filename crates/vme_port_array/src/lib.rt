@@ -3,6 +3,7 @@
 //! the part of each object is legal. A pass knows the prefix of that history that it has seen.
 #![tactic(auto)]
 
+mod behind;
 mod calls;
 mod fault;
 mod indexed;
@@ -15,6 +16,7 @@ mod seats;
 mod settle;
 mod waking;
 
+pub use behind::calls_come_behind;
 pub use fault::ArrayFault;
 pub use indexed::Indexed;
 pub use laws::{calls_compose, calls_make_one_history};
