@@ -1,4 +1,4 @@
-ghost use Rattle.std.specs.Prelude.{◌≡◌};
+ghost use Rattle.std.specs.Prelude.{◌≡◌, true};
 ghost use Rattle.vme_protocol.specs.Samples.{is_at_rest, has_strobe, has_answer, strobe_falls, strobe_rises, answer_falls, answer_rises, address_strobe_falls, address_strobe_rises};
 
 /// The levels of the lines of the bus at one time. `true` is high.
