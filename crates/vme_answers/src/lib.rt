@@ -1,0 +1,11 @@
+//! The answers of the boards to the data of a recorded trace (ANSI/IEEE Std 1014-1987): which board
+//! the address map selects, whether its class has the cycle, and whether the bytes that it shows are
+//! those that its memory may have. [`Answers`] takes one datum after another.
+#![tactic(auto)]
+
+mod answers;
+mod class;
+mod wrong;
+
+pub use answers::{Answers, BoardRule, Open};
+pub use wrong::Wrong;
