@@ -30,8 +30,9 @@ pub(crate) fn set_scope(judge: &mut Judge<'_>, presence: &Presence) {
     judge.scope.drivers = has_drivers;
     judge.scope.busy = presence.busy || has_drivers;
     judge.scope.busy_line = presence.busy;
-    judge.scope.grants =
-        has_drivers && presence.requests & slots == slots && presence.grants & slots == slots;
+    judge.scope.grants = has_drivers
+        && presence.requests & slots == slots
+        && presence.grants & slots == slots;
 }
 
 impl Ports {

@@ -29,7 +29,10 @@ pub(crate) fn write_finding(
     to.push_str("{\"file\":\"")?;
     write_escaped(name, to)?;
     let (line, code) = (finding.line, finding.rule().code());
-    write!(to, "\",\"line\":{line},\"severity\":\"error\",\"code\":\"J{code}\"")?;
+    write!(
+        to,
+        "\",\"line\":{line},\"severity\":\"error\",\"code\":\"J{code}\""
+    )?;
     let mut text = String::new(alloc);
     write_title(finding, &mut text)?;
     write_field("message", text.as_str(), to)?;

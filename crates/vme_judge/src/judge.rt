@@ -146,7 +146,12 @@ impl<'a> Judge<'a> {
         let datum = match watch.push(sample) {
             Ok(datum) => datum,
             Err(rule) => {
-                self.find(spot, Broken::Order(rule), Some((before, *sample)), undefined);
+                self.find(
+                    spot,
+                    Broken::Order(rule),
+                    Some((before, *sample)),
+                    undefined,
+                );
                 return Ok(false);
             }
         };

@@ -149,7 +149,13 @@ impl LogState {
         }
         self.last = Some(*datum);
         let at_rest = quiet(datum, false);
-        if !handshake(judge, datum, with_data(datum, at_rest), spot, datum.is_acknowledged)? {
+        if !handshake(
+            judge,
+            datum,
+            with_data(datum, at_rest),
+            spot,
+            datum.is_acknowledged,
+        )? {
             return Ok(Taken::Illegal);
         }
         Ok(Taken::Legal)

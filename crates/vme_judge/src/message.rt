@@ -76,10 +76,7 @@ fn write_holders(finding: &Finding, to: &mut String) -> Result<(), AllocError> {
     if others == 0 {
         return to.push_str(Rule::TwoHolders.text());
     }
-    let (first, second) = (
-        u64::from(first) + 1,
-        u64::from(others.trailing_zeros()) + 1,
-    );
+    let (first, second) = (u64::from(first) + 1, u64::from(others.trailing_zeros()) + 1);
     write!(to, "slots {first} and {second} drive BBSY* at once")
 }
 

@@ -144,10 +144,7 @@ impl Shown {
             Shown::LongWord => (high & 1, high_undefined & 1),
             Shown::Data => (low, low_undefined),
             Shown::Driver(slot) => {
-                let low = sample
-                    .drivers
-                    .wrapping_shr(u32::from(slot.wrapping_sub(1)))
-                    & 1;
+                let low = sample.drivers.wrapping_shr(u32::from(slot.wrapping_sub(1))) & 1;
                 (1 - low, 0)
             }
         }

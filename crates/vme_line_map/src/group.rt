@@ -61,10 +61,8 @@ impl Group {
             Group::SlotBusy(_) => "BBSY* of a slot",
             Group::SlotRequest(_) => "BRn* of a slot",
             Group::SlotGrant(_) => "BG3IN* to BG0IN* of a slot",
-            Group::PortWrite(_)
-            | Group::PortOffset(_)
-            | Group::PortData(_)
-            | Group::PortDone(_) => "a local port",
+            Group::PortWrite(_) | Group::PortOffset(_) | Group::PortData(_) | Group::PortDone(_) =>
+                "a local port",
         }
     }
 

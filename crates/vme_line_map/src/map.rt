@@ -90,7 +90,10 @@ impl LineMap {
     /// # Errors
     ///
     /// An allocation failed, or the map is full.
-    pub(crate) fn add(&mut self, wanted: &Wanted<'_>) -> Result<Result<(), LinesProblem>, AllocError> {
+    pub(crate) fn add(
+        &mut self,
+        wanted: &Wanted<'_>,
+    ) -> Result<Result<(), LinesProblem>, AllocError> {
         if MOST_WANTED <= self.rows.len() {
             return Ok(Err(LinesProblem::TooMany));
         }

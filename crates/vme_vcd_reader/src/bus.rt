@@ -43,11 +43,17 @@ pub struct BusLines {
 
 /// The control lines that can be undefined, as bits of `undefined`.
 const ADDRESS_STROBE: u32 = 1;
+
 const UPPER_STROBE: u32 = 2;
+
 const LOWER_STROBE: u32 = 4;
+
 const ACKNOWLEDGE: u32 = 8;
+
 const BUS_ERROR: u32 = 16;
+
 const INTERRUPT_ACKNOWLEDGE: u32 = 32;
+
 const BUSY: u32 = 64;
 
 /// LWORD* among the lines of a sample, and the place of A00, which is not one of them.
@@ -277,8 +283,11 @@ impl BusLines {
         let low = change.mask & !change.ones & !change.free & !change.undefined;
         match group {
             Group::SlotBusy(slot) => {
-                self.undefined_drivers =
-                    with_slot(self.undefined_drivers, slot, change.is_undefined());
+                self.undefined_drivers = with_slot(
+                    self.undefined_drivers,
+                    slot,
+                    change.is_undefined(),
+                );
                 self.sample.drivers = with_slot(self.sample.drivers, slot, low != 0);
             }
             Group::SlotRequest(slot) => {

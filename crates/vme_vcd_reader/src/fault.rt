@@ -56,7 +56,8 @@ impl VcdFault {
             VcdFault::Absent(_) => "no variable has this name",
             VcdFault::Ambiguous(_) => "several variables have this name; write more of its path",
             VcdFault::BadWidth(_) => "the variable has other bits, or more than 64",
-            VcdFault::LacksLines(_) => "the dump lacks this line; `--lines` says which variable it is",
+            VcdFault::LacksLines(_) =>
+                "the dump lacks this line; `--lines` says which variable it is",
             VcdFault::BadTime => "no time below 2^64",
             VcdFault::TimeFalls => "the time falls",
             VcdFault::BadValue => "no level of a line",

@@ -164,7 +164,8 @@ impl Matching {
             let Some(wanted) = map.get(index) else {
                 continue;
             };
-            let is_a01 = wanted.group == Group::Address && wanted.place == vme_line_map::Place::From(1);
+            let is_a01 = wanted.group == Group::Address
+                && wanted.place == vme_line_map::Place::From(1);
             for candidate in self.candidates.iter() {
                 if !self.is_best(candidate, number) {
                     continue;

@@ -96,10 +96,18 @@ impl Variable<'_> {
         }
         let (right, first, count) = match wanted.place {
             Place::From(first) => (0, u16::from(first), self.size),
-            Place::Ranged(more) => (0, self.ranged(wanted.group)?.checked_add(u16::from(more))?, self.size),
+            Place::Ranged(more) => (
+                0,
+                self.ranged(wanted.group)?.checked_add(u16::from(more))?,
+                self.size,
+            ),
             Place::Bits { high, low, first } => {
                 let right = self.place_of(high)?.min(self.place_of(low)?);
-                (right, u16::from(first), (high.checked_sub(low)?).checked_add(1)?)
+                (
+                    right,
+                    u16::from(first),
+                    (high.checked_sub(low)?).checked_add(1)?,
+                )
             }
         };
         let end = first.checked_add(count)?;
