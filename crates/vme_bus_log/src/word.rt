@@ -8,14 +8,17 @@ pub(crate) fn is_blank(byte: u8) -> bool {
 
 /// Returns the text from its first byte that is no blank.
 fn skip_blanks(text: &[u8]) -> &[u8] {
-    let mut rest = text;
-    while let [first, tail @ ..] = rest {
-        if !is_blank(*first) {
-            return rest;
-        }
-        rest = tail;
+    match word_place(text) {
+        Some(place) => text.split_at(place).1,
+        None => &[],
     }
-    rest
+}
+
+/// Returns the index of the first byte that is no blank.
+fn word_place(text: &[u8]) -> Option<usize>
+    ensures { IfSome result (λ place. place < length text.now) }
+{
+    text.iter().position(|byte| !is_blank(*byte))
 }
 
 /// Returns the number of bytes before the first blank.

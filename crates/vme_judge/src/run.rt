@@ -63,7 +63,19 @@ impl<'a> Run<'a> {
     ///
     /// An allocation failed.
     pub(crate) fn push_all(&mut self, bytes: &[u8]) -> Result<bool, JudgeFault> {
-        for byte in bytes {
+        let mut rest = bytes;
+        // A step takes a byte at least.
+        for _step in 0..bytes.len() {
+            let [byte, tail @ ..] = rest else {
+                break;
+            };
+            if self.kind == Kind::Dump
+                && let Some(after) = self.vcd.push_line(rest)
+            {
+                rest = after;
+                continue;
+            }
+            rest = tail;
             let goes_on = match self.kind {
                 Kind::Dump => self.push_dump(*byte)?,
                 Kind::Log => self.push_log(*byte)?,

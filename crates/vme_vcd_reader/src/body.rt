@@ -195,6 +195,12 @@ impl Body {
         self.number = 0;
     }
 
+    /// Returns whether the next byte begins a word.
+    #[inline]
+    pub(crate) fn is_between(&self) -> bool {
+        self.place == Place::Gap
+    }
+
     /// Returns whether the text may end here, after a blank.
     pub(crate) fn may_end(&self) -> bool {
         self.place == Place::Gap || self.place == Place::Comment

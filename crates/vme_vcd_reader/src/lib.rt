@@ -10,6 +10,7 @@ mod header;
 mod identifier;
 mod matching;
 mod presence;
+mod quick;
 mod reader;
 mod table;
 mod variable;

@@ -5,6 +5,7 @@ use crate::bus::BusLines;
 use crate::fault::VcdFault;
 use crate::header::{Header, Progress};
 use crate::presence::Presence;
+use crate::quick::quick_change;
 use crate::table::Table;
 use std::alloc::Global;
 use vme_line_map::LineMap;
@@ -118,6 +119,22 @@ impl<'a> VcdReader<'a> {
             self.line = self.line.wrapping_add(1);
         }
         Ok(step)
+    }
+
+    /// Takes the change that stands whole on a line at the start of a text, if there is one of 0 and
+    /// 1, and returns the text after it. `push` of each byte of the line does the same.
+    #[inline]
+    pub fn push_line<'b>(&mut self, text: &'b [u8]) -> Option<&'b [u8]> {
+        if !self.is_body || !self.body.is_between() {
+            return None;
+        }
+        let quick = quick_change(text)?;
+        for mapped in self.table.with(quick.identifier) {
+            self.bus.change(mapped, &quick.bits);
+            self.is_changed = true;
+        }
+        self.line = self.line.wrapping_add(1);
+        Some(quick.rest)
     }
 
     /// Ends the text, and returns whether it completes a sample.
