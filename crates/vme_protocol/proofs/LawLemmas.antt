@@ -1,7 +1,6 @@
 -- Lemmas of the laws of verdicts.
 use Rattle.std.proofs.Common.{◌≡◌, ℕ, zero, suc, ◌+◌, ◌≤◌, Bool, true, false, not, ◌&&◌, ◌||◌, List, [], ◌∷◌, ◌++◌, take, Option, Some, None, refl, arith}
-use Rattle.std.specs.Prelude.{find}
-use Rattle.std.specs.Option.{option_map, option_map_or}
+use Rattle.std.specs.Option.{option_map_or}
 use Rattle.vme_protocol.specs.declared.sample.Sample.{Sample}
 use Rattle.vme_protocol.specs.declared.scope.Scope.{Scope}
 use Rattle.vme_protocol.specs.declared.rule.Rule.{Rule}
@@ -78,15 +77,21 @@ both_none : (a b : Option Rule) → option_map_or Some a b ≡ None → (a ≡ N
 both_none None b h = (refl, h)
 both_none (Some rule) b h = absurd cc
 
--- the first of some tests, if none holds
-head_fails : (rule : Rule) (test : Bool) (rest : List (Rule × Bool)) → first_of ((rule, test) ∷ rest) ≡ None → test ≡ false
-head_fails rule false rest h = refl
-head_fails rule true rest h = absurd cc
+-- whether the first of some tests holds
+abbrev pub head_holds : List (Rule × Bool) → Bool
+head_holds [] = false
+head_holds (test ∷ rest) = test.1
+
+-- it does not, if none is found that holds
+head_fails : (tests : List (Rule × Bool)) → first_of tests ≡ None → head_holds tests ≡ false
+head_fails [] h = refl
+head_fails ((rule, false) ∷ rest) h = refl
+head_fails ((rule, true) ∷ rest) h = absurd cc
 
 -- a sample that breaks no rule of a handshake has no strobe low without AS*
 not_lone : (w : Watch) (t : Transfer) (s : Sample) → handshake_broken w t s ≡ None → has_lone_strobe w s ≡ false
 unfolding handshake_broken handshake_tests
-not_lone w t s h = head_fails _ (has_lone_strobe w s) _ h
+not_lone w t s h = head_fails (handshake_tests w t s) h
 
 -- the same of a sample that breaks no rule
 none_lone : (w : Watch) (s : Sample) → broken w s ≡ None → has_lone_strobe w s ≡ false

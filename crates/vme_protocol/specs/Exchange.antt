@@ -1,5 +1,5 @@
 -- Tests of strobes, data and answers, of a sample and what is remembered.
-use Rattle.std.specs.Prelude.{ℕ, ◌-◌, nat_lt, Bool, not, ◌&&◌, ◌||◌}
+use Rattle.std.specs.Prelude.{◌-◌, nat_lt, Bool, not, ◌&&◌, ◌||◌}
 use Rattle.std.specs.Bool.{beq}
 use Rattle.vme_protocol.specs.declared.sample.Sample.{Sample}
 use Rattle.vme_protocol.specs.declared.transfer.Transfer.{Transfer}

@@ -1,5 +1,5 @@
 -- What is remembered of a handshake, from the sample before the first strobe falls on.
-use Rattle.std.specs.Prelude.{ℕ, Bool, true, false, not, ◌&&◌, if◌then◌else◌, bit_or, Option, Some, None}
+use Rattle.std.specs.Prelude.{ℕ, not, ◌&&◌, if◌then◌else◌, bit_or, Option, Some, None}
 use Rattle.vme_protocol.specs.declared.sample.Sample.{Sample}
 use Rattle.vme_protocol.specs.declared.place.Place.{Place}
 use Rattle.vme_protocol.specs.declared.datum.Datum.{Datum}

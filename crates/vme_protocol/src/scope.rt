@@ -42,6 +42,7 @@ impl Scope {
     }
 
     /// Returns whether cycles with this code are not judged.
+    #[tactic(auto, unfolding(crate::specs::Scopes::is_ignored))]
     pub fn is_ignored(&self, am: u8) -> bool
         ensures { result ≡ is_ignored self.now am }
     {

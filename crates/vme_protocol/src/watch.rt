@@ -74,7 +74,7 @@ impl Watch {
     }
 
     /// The first rule of AS*, the address, BBSY* and defined lines that a sample breaks.
-    #[tactic(auto, unfolding(crate::specs::Watching::lines_broken))]
+    #[tactic(auto, unfolding(crate::specs::Watching::lines_broken, crate::specs::Watching::lines_tests))]
     fn lines_broken(&self, t: &Transfer, s: &Sample) -> Option<Rule>
         ensures { result ≡ lines_broken self.now t.now s.now }
     {
@@ -100,7 +100,7 @@ impl Watch {
     }
 
     /// The first rule of a handshake that a sample breaks.
-    #[tactic(auto, unfolding(crate::specs::Watching::handshake_broken))]
+    #[tactic(auto, unfolding(crate::specs::Watching::handshake_broken, crate::specs::Watching::handshake_tests))]
     fn handshake_broken(&self, t: &Transfer, s: &Sample) -> Option<Rule>
         ensures { result ≡ handshake_broken self.now t.now s.now }
     {
@@ -132,7 +132,7 @@ impl Watch {
     }
 
     /// The first rule of transfers that an answer breaks.
-    #[tactic(auto, unfolding(crate::specs::Watching::transfer_broken))]
+    #[tactic(auto, unfolding(crate::specs::Watching::transfer_broken, crate::specs::Watching::transfer_tests))]
     fn transfer_broken(&self, t: &Transfer, s: &Sample) -> Option<Rule>
         ensures { result ≡ transfer_broken self.now t.now s.now }
     {
