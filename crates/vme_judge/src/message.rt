@@ -87,20 +87,19 @@ fn write_answer(
     slot: Option<u8>,
     to: &mut String,
 ) -> Result<(), AllocError> {
-    match slot {
-        Some(slot) => write!(to, "the board of slot {slot}: ")?,
-        None => {}
+    let text = wrong.rule.text();
+    let Some(slot) = slot else {
+        return to.push_str(text);
+    };
+    write!(to, "the board of slot {slot}")?;
+    if wrong.rule != Rule::WrongBytes {
+        return write!(to, ": {text}");
     }
-    match wrong.rule {
-        Rule::WrongBytes => {
-            to.push_str("reads ")?;
-            write_bytes(asked, to)?;
-            let offset = wrong.offset;
-            write!(to, " at offset {offset:08x}, where its memory has ")?;
-            write_known(wrong, to)
-        }
-        rule => to.push_str(rule.text()),
-    }
+    to.push_str(" reads ")?;
+    write_bytes(asked, to)?;
+    let offset = wrong.offset;
+    write!(to, " at offset {offset:08x}, where its memory has ")?;
+    write_known(wrong, to)
 }
 
 /// Appends the bytes that an access has.

@@ -360,7 +360,7 @@ pub(crate) static JUDGEMENTS: [Text; 21] = [
 n=0 am=09 a=00000000 ds1=0 ds0=0 a01=0 lword=0 write=1 data=00000001 dtack\n\
 n=0 am=09 a=00000000 ds1=0 ds0=0 a01=0 lword=0 write=1 data=00000002 dtack\n",
             },
-            shows: "trace:2: error: the board of slot 1: reads 00000002 at offset 00000000, where its memory has 00000001 [J23]",
+            shows: "trace:2: error: the board of slot 1 reads 00000002 at offset 00000000, where its memory has 00000001 [J23]",
         }),
     },
     Text {
