@@ -1,7 +1,7 @@
 //! A dump, judged.
 use crate::boards::Board;
-use crate::fault::JudgeFault;
 use crate::judge::{Judge, Spot};
+use std::alloc::AllocError;
 use vme_protocol::{Port, local_access};
 use vme_vcd_reader::{BusLines, Presence, VcdReader};
 
@@ -53,7 +53,7 @@ impl Ports {
         judge: &mut Judge<'_>,
         bus: &mut BusLines,
         spot: Spot,
-    ) -> Result<bool, JudgeFault> {
+    ) -> Result<bool, AllocError> {
         let changed = bus.take_changed_ports();
         if changed == 0 {
             return Ok(true);
@@ -102,7 +102,7 @@ pub(crate) fn take_sample(
     judge: &mut Judge<'_>,
     ports: &mut Ports,
     vcd: &mut VcdReader<'_>,
-) -> Result<bool, JudgeFault> {
+) -> Result<bool, AllocError> {
     let time = vcd.time();
     let spot = Spot {
         line: vcd.sample_line(),

@@ -1,5 +1,6 @@
 //! The engine of `bendrika judge`.
 ghost use Rattle.std.specs.Prelude.{◌≡◌, false};
+ghost use Rattle.vme_judge.specs.Faults.{is_read_end, is_write_end};
 
 use crate::boards::Board;
 use crate::fault::{JudgeFault, Status};
@@ -15,12 +16,13 @@ const PIECE: usize = 16_384;
 
 /// Judges a trace, a dump or a bus log, by the boards of a configuration, and writes the verdict.
 ///
-/// After a sample that is not legal nothing more is read.
+/// The trace is judged while it is read: after a sample that is not legal nothing more is read. No
+/// clause states the text or the status.
 ///
 /// # Errors
 ///
 /// `Read` or `Write`: the reader or the writer failed. `Memory`: an allocation failed. `TooLong`:
-/// the trace has more than 2^64 pieces.
+/// the trace has 2^64 - 1 pieces or more.
 pub fn judge_engine<S: Source, W: Sink>(
     alloc: Global,
     options: &Options<'_>,
@@ -31,6 +33,8 @@ pub fn judge_engine<S: Source, W: Sink>(
 ) -> Result<Status, JudgeFault>
     requires reader_unmarked { S.is_marked trace.old ≡ false }
     requires writer_unmarked { W.is_marked writer.old ≡ false }
+    ensures read { S.is_marked trace.new ≡ is_read_end result }
+    ensures write { W.is_marked writer.new ≡ is_write_end result }
 {
     let mut run = Run::new(alloc, options, map, boards)?;
     let mut buffer = [0u8; PIECE];
@@ -51,7 +55,11 @@ pub fn judge_engine<S: Source, W: Sink>(
 }
 
 /// Writes the lines of the bus log that are not written yet.
-fn write_log<W: Sink>(log: &mut String, writer: &mut W) -> Result<(), JudgeFault> {
+fn write_log<W: Sink>(log: &mut String, writer: &mut W) -> Result<(), JudgeFault>
+    requires { W.is_marked writer.old ≡ false }
+    ensures read { is_read_end result ≡ false }
+    ensures write { W.is_marked writer.new ≡ is_write_end result }
+{
     if log.is_empty() {
         return Ok(());
     }
@@ -67,7 +75,11 @@ fn written<W: Sink>(
     options: &Options<'_>,
     map: &LineMap,
     writer: &mut W,
-) -> Result<Status, JudgeFault> {
+) -> Result<Status, JudgeFault>
+    requires { W.is_marked writer.old ≡ false }
+    ensures read { is_read_end result ≡ false }
+    ensures write { W.is_marked writer.new ≡ is_write_end result }
+{
     if !run.judge.log.is_empty() {
         write_all(writer, run.judge.log.as_bytes())?;
     }

@@ -1,5 +1,8 @@
 //! How a judgement ends.
-use std::alloc::{AllocError, AllocFailed};
+ghost use Rattle.std.specs.Prelude.{◌≡◌};
+ghost use Rattle.vme_judge.specs.declared.fault.JudgeFault.TheVariants.{Memory, Write};
+
+use std::alloc::AllocError;
 use thiserror::Error;
 use vme_io::Failed;
 
@@ -32,18 +35,16 @@ pub enum JudgeFault {
 }
 
 impl From<AllocError> for JudgeFault {
+    ghost from_gives = { λ _ fault. fault ≡ Memory };
+
     fn from(_error: AllocError) -> JudgeFault {
         JudgeFault::Memory
     }
 }
 
-impl<T: Drop> From<AllocFailed<T>> for JudgeFault {
-    fn from(_error: AllocFailed<T>) -> JudgeFault {
-        JudgeFault::Memory
-    }
-}
-
 impl From<Failed> for JudgeFault {
+    ghost from_gives = { λ _ fault. fault ≡ Write };
+
     fn from(_failed: Failed) -> JudgeFault {
         JudgeFault::Write
     }

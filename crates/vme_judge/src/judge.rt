@@ -1,12 +1,11 @@
 //! The judgement of a trace, sample by sample.
 use crate::boards::Board;
 use crate::counts::{Counts, count};
-use crate::fault::JudgeFault;
 use crate::finding::{Asked, Broken, Finding};
 use crate::log::log_datum;
 use crate::options::Options;
 use crate::transfer::{OpenTransfer, driver_of};
-use std::alloc::Global;
+use std::alloc::{AllocError, Global};
 use vme_answers::{Answers, BoardRule, Open, Wrong};
 use vme_bus_log::{LogAccess, print_access, print_datum};
 use vme_protocol::{Datum, Local, Mode, Rule, Sample, Scope, Watch};
@@ -34,7 +33,7 @@ pub(crate) struct Judge<'a> {
 }
 
 /// The bytes that the words open, with the boards' indices.
-fn opened(alloc: Global, options: &Options<'_>, boards: &[Board]) -> Result<Vec<Open>, JudgeFault> {
+fn opened(alloc: Global, options: &Options<'_>, boards: &[Board]) -> Result<Vec<Open>, AllocError> {
     let mut opened = Vec::new(alloc);
     for open in options.open {
         for (index, board) in boards.iter().enumerate() {
@@ -56,7 +55,7 @@ fn answers_of(
     alloc: Global,
     options: &Options<'_>,
     boards: &[Board],
-) -> Result<Option<Answers>, JudgeFault> {
+) -> Result<Option<Answers>, AllocError> {
     if !options.has_answers() {
         return Ok(None);
     }
@@ -76,7 +75,7 @@ fn answers_of(
         options.others,
     ) {
         Ok(answers) => Ok(Some(answers)),
-        Err(_) => Err(JudgeFault::Memory),
+        Err(_) => Err(AllocError),
     }
 }
 
@@ -90,7 +89,7 @@ impl<'a> Judge<'a> {
         alloc: Global,
         options: &'a Options<'a>,
         boards: &'a [Board],
-    ) -> Result<Judge<'a>, JudgeFault> {
+    ) -> Result<Judge<'a>, AllocError> {
         Ok(Judge {
             options,
             boards,
@@ -131,7 +130,7 @@ impl<'a> Judge<'a> {
         sample: &Sample,
         spot: Spot,
         undefined: Option<&'static str>,
-    ) -> Result<bool, JudgeFault> {
+    ) -> Result<bool, AllocError> {
         let Some(watch) = self.watch.as_mut() else {
             if sample.is_at_rest() {
                 self.watch = Some(Watch::new(self.scope, *sample));
@@ -210,7 +209,7 @@ impl<'a> Judge<'a> {
         spot: Spot,
         before: &Sample,
         sample: &Sample,
-    ) -> Result<bool, JudgeFault> {
+    ) -> Result<bool, AllocError> {
         count(&mut self.counts.data);
         if let Some(transfer) = self.transfer.as_mut() {
             transfer.data = u64::from(datum.index);
@@ -252,7 +251,7 @@ impl<'a> Judge<'a> {
         slot: u8,
         access: &Local,
         spot: Spot,
-    ) -> Result<bool, JudgeFault> {
+    ) -> Result<bool, AllocError> {
         count(&mut self.counts.accesses);
         if self.options.log {
             let line = LogAccess {

@@ -1,6 +1,6 @@
 //! A bus log, judged: each datum as the samples of a handshake that shows it.
-use crate::fault::JudgeFault;
 use crate::judge::{Judge, Spot};
+use std::alloc::AllocError;
 use vme_bus_log::{LogAccess, LogDatum};
 use vme_protocol::{Datum, Local, Sample};
 
@@ -126,7 +126,7 @@ impl LogState {
         judge: &mut Judge<'_>,
         datum: &LogDatum,
         line: u64,
-    ) -> Result<Taken, JudgeFault> {
+    ) -> Result<Taken, AllocError> {
         let spot = Spot {
             line,
             time: datum.time,
@@ -171,7 +171,7 @@ impl LogState {
         judge: &mut Judge<'_>,
         access: &LogAccess,
         line: u64,
-    ) -> Result<Taken, JudgeFault> {
+    ) -> Result<Taken, AllocError> {
         let spot = Spot {
             line,
             time: access.time,
@@ -191,7 +191,7 @@ impl LogState {
 }
 
 /// Ends the transfer before, if there is one, and begins that of a datum.
-fn open(judge: &mut Judge<'_>, datum: &LogDatum, spot: Spot) -> Result<bool, JudgeFault> {
+fn open(judge: &mut Judge<'_>, datum: &LogDatum, spot: Spot) -> Result<bool, AllocError> {
     if !judge.take(&quiet(datum, true), spot, None)? {
         return Ok(false);
     }
@@ -214,7 +214,7 @@ fn handshake(
     quiet: Sample,
     spot: Spot,
     is_acknowledged: bool,
-) -> Result<bool, JudgeFault> {
+) -> Result<bool, AllocError> {
     let strobed = Sample {
         ds1: datum.ds1,
         ds0: datum.ds0,

@@ -1,12 +1,11 @@
 //! A trace, byte by byte.
 use crate::boards::Board;
 use crate::dump::{Ports, set_scope, take_sample};
-use crate::fault::JudgeFault;
 use crate::judge::Judge;
 use crate::log::{LogState, Taken};
 use crate::options::Options;
 use crate::rejection::{Rejection, Why};
-use std::alloc::Global;
+use std::alloc::{AllocError, Global};
 use vme_bus_log::{LogEntry, LogReader};
 use vme_line_map::LineMap;
 use vme_vcd_reader::{Step, VcdFault, VcdReader};
@@ -42,9 +41,9 @@ impl<'a> Run<'a> {
         options: &'a Options<'a>,
         map: &'a LineMap,
         boards: &'a [Board],
-    ) -> Result<Run<'a>, JudgeFault> {
+    ) -> Result<Run<'a>, AllocError> {
         let Ok(vcd) = VcdReader::new(alloc, map) else {
-            return Err(JudgeFault::Memory);
+            return Err(AllocError);
         };
         Ok(Run {
             judge: Judge::new(alloc, options, boards)?,
@@ -62,7 +61,7 @@ impl<'a> Run<'a> {
     /// # Errors
     ///
     /// An allocation failed.
-    pub(crate) fn push_all(&mut self, bytes: &[u8]) -> Result<bool, JudgeFault> {
+    pub(crate) fn push_all(&mut self, bytes: &[u8]) -> Result<bool, AllocError> {
         let mut rest = bytes;
         // A step takes a byte at least.
         for _step in 0..bytes.len() {
@@ -89,7 +88,7 @@ impl<'a> Run<'a> {
     }
 
     /// Takes a byte before the form is known.
-    fn push_first(&mut self, byte: u8) -> Result<bool, JudgeFault> {
+    fn push_first(&mut self, byte: u8) -> Result<bool, AllocError> {
         match byte {
             b' ' | b'\t' | b'\r' | b'\n' => Ok(self.push_dump(byte)? && self.push_log(byte)?),
             b'$' => {
@@ -105,7 +104,7 @@ impl<'a> Run<'a> {
 
     /// Takes a byte of a dump.
     #[inline]
-    fn push_dump(&mut self, byte: u8) -> Result<bool, JudgeFault> {
+    fn push_dump(&mut self, byte: u8) -> Result<bool, AllocError> {
         match self.vcd.push(byte) {
             Ok(Step::More) => Ok(true),
             Ok(Step::Header) => {
@@ -118,9 +117,9 @@ impl<'a> Run<'a> {
     }
 
     /// Rejects a dump.
-    fn reject_dump(&mut self, fault: VcdFault) -> Result<bool, JudgeFault> {
+    fn reject_dump(&mut self, fault: VcdFault) -> Result<bool, AllocError> {
         if fault == VcdFault::Memory {
-            return Err(JudgeFault::Memory);
+            return Err(AllocError);
         }
         self.rejection = Some(Rejection {
             why: Why::Dump(fault),
@@ -130,7 +129,7 @@ impl<'a> Run<'a> {
     }
 
     /// Takes a byte of a log.
-    fn push_log(&mut self, byte: u8) -> Result<bool, JudgeFault> {
+    fn push_log(&mut self, byte: u8) -> Result<bool, AllocError> {
         let line = self.log.number();
         match self.log.push(byte) {
             Ok(entry) => self.take_entry(&entry, line),
@@ -150,7 +149,7 @@ impl<'a> Run<'a> {
     }
 
     /// Takes what a line of a log says.
-    fn take_entry(&mut self, entry: &LogEntry, line: u64) -> Result<bool, JudgeFault> {
+    fn take_entry(&mut self, entry: &LogEntry, line: u64) -> Result<bool, AllocError> {
         let taken = match entry {
             LogEntry::Nothing => return Ok(true),
             LogEntry::Datum(datum) => self.state.datum(&mut self.judge, datum, line)?,
@@ -171,7 +170,7 @@ impl<'a> Run<'a> {
     /// # Errors
     ///
     /// An allocation failed.
-    pub(crate) fn end(&mut self) -> Result<(), JudgeFault> {
+    pub(crate) fn end(&mut self) -> Result<(), AllocError> {
         match self.kind {
             Kind::Dump => self.end_dump(),
             Kind::Log => {
@@ -189,7 +188,7 @@ impl<'a> Run<'a> {
     }
 
     /// Ends a dump, whose last two times may still be open.
-    fn end_dump(&mut self) -> Result<(), JudgeFault> {
+    fn end_dump(&mut self) -> Result<(), AllocError> {
         match self.vcd.end() {
             Ok(Step::Sample) => {
                 if take_sample(&mut self.judge, &mut self.ports, &mut self.vcd)?

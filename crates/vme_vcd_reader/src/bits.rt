@@ -1,4 +1,6 @@
 //! The levels of the bits of a variable.
+ghost use Rattle.std.specs.Prelude.{◌≡◌};
+ghost use Rattle.vme_vcd_reader.specs.Levels.{level_of};
 
 /// The levels of the last 64 bits of a variable. A bit that is in none of the three is low.
 #[derive(Clone, Copy, Debug, PartialEq, Eq)]
@@ -22,7 +24,9 @@ pub(crate) enum Level {
 
 /// Returns the level that a byte spells: 0, 1, z and x in either case, and the levels of VHDL.
 #[inline]
-pub(crate) fn level_of(byte: u8) -> Option<Level> {
+pub(crate) fn level_of(byte: u8) -> Option<Level>
+    ensures { result ≡ level_of byte }
+{
     match byte {
         b'0' | b'L' | b'l' => Some(Level::Low),
         b'1' | b'H' | b'h' => Some(Level::High),
