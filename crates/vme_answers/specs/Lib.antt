@@ -1,1 +1,4 @@
 pub mod Cycles
+pub mod Bytes
+pub mod Selecting
+pub mod Taking

@@ -1,57 +1,17 @@
-use crate::class::{has_datum, has_modify};
+ghost use Rattle.std.specs.Prelude.{◌≡◌, ◌+◌, ◌≤◌, length, replicate, None, Ok, Err, IsOk, IfOk, IfErr, IfSome};
+ghost use Rattle.vme_answers.specs.Selecting.{select};
+ghost use Rattle.vme_answers.specs.Taking.{place, rested, half_after, half_torn, is_torn, read_taken, write_taken, taken_at, taken_in, taken_by, taken, local_taken_at, local_taken_in, local_taken};
+
+use crate::board::{BoardRule, Half, Open, Row};
+use crate::bytes::{bytes_of, find_all, known_from, local_bytes, store_all};
+use crate::selected::{Selected, is_block, is_second};
 use crate::wrong::Wrong;
-use std::alloc::Global;
+use std::alloc::{AllocError, Global};
+use std::marker::Model;
 use vme_am::Am;
-use vme_decode::{AddressMap, Entry, MapFault};
+use vme_decode::{AddressMap, MapFault};
 use vme_known::{Byte, KnownBytes};
-use vme_memory::Class;
 use vme_protocol::{Datum, Local, Rule};
-
-/// One board: where it responds, and to which cycles.
-#[derive(Clone, Copy, Debug, PartialEq, Eq)]
-pub struct BoardRule {
-    /// Its entry of the address map.
-    pub entry: Entry,
-    /// The class of its slave.
-    pub class: Class,
-}
-
-/// Bytes of a board that something may write that the trace does not show.
-#[derive(Clone, Copy, Debug, PartialEq, Eq)]
-pub struct Open {
-    /// The board, by its place in the list.
-    pub board: usize,
-    /// The offset of the first byte.
-    pub from: u32,
-    /// The offset after the last byte.
-    pub to: u32,
-}
-
-/// A board, and where its bytes are among those of all boards.
-#[derive(Clone, Copy, Debug, PartialEq, Eq)]
-struct Row {
-    start: usize,
-    size: u32,
-    class: Class,
-}
-
-/// Where a datum is.
-#[derive(Clone, Copy, Debug, PartialEq, Eq)]
-struct Selected {
-    board: usize,
-    offset: u32,
-    row: Row,
-}
-
-/// The read half of what may be a read-modify-write.
-#[derive(Clone, Copy, Debug, PartialEq, Eq)]
-struct Half {
-    board: usize,
-    offset: u32,
-    len: u8,
-    /// Whether a local write to its bytes has come since.
-    torn: bool,
-}
 
 /// What is known of the memory of each board.
 #[derive(Debug, Drop)]
@@ -62,6 +22,20 @@ pub struct Answers {
     bytes: KnownBytes,
     others: bool,
     half: Option<Half>,
+}
+
+impl Model for Answers {
+    ghost use Rattle.vme_answers.specs.Taking.{Judged};
+
+    ghost Value = { Judged };
+
+    ghost view = { λ a. record {
+      entries = a.map;
+      rows = a.rows.items;
+      bytes = a.bytes;
+      others = a.others;
+      half = a.half;
+    } };
 }
 
 impl Answers {
@@ -77,17 +51,25 @@ impl Answers {
         opens: &[Open],
         zero: bool,
         others: bool,
-    ) -> Result<Answers, MapFault> {
+    ) -> Result<Answers, MapFault>
+        ensures others { IfOk result (λ a. a.others ≡ others) }
+        ensures half { IfOk result (λ a. a.half ≡ None) }
+    {
         let mut entries = Vec::with_capacity(alloc, boards.len())?;
         let mut rows = Vec::with_capacity(alloc, boards.len())?;
         let mut start: usize = 0;
         for board in boards {
-            entries.push(board.entry)?;
-            rows.push(Row {
+            if let Err(error) = entries.push(board.entry) {
+                return Err(AllocError::from(error).into());
+            }
+            let row = Row {
                 start,
                 size: board.entry.size,
                 class: board.class,
-            })?;
+            };
+            if let Err(error) = rows.push(row) {
+                return Err(AllocError::from(error).into());
+            }
             start = start.saturating_add(board.entry.size as usize);
         }
         let map = AddressMap::new(alloc, entries.as_slice())?;
@@ -111,19 +93,16 @@ impl Answers {
     ///
     /// # Errors
     ///
-    /// It is not the answer of a board: J21 to J24. Nothing has changed then.
-    pub fn take(&mut self, datum: &Datum) -> Result<(), Wrong> {
-        let selected = self.select(datum);
-        if let Some(rule) = self.broken(&selected, datum) {
-            return Err(self.wrong(rule, &selected, datum));
+    /// It is not the answer of a board: J21 to J24.
+    #[tactic(auto, unfolding(crate::specs::Taking::taken))]
+    pub fn take(&mut self, datum: &Datum) -> Result<(), Wrong>
+        ensures wrong { IfErr result (λ wrong. taken self.old datum.now ≡ Err wrong.rule) }
+        ensures taken { IsOk result → taken self.old datum.now ≡ Ok self.new }
+    {
+        match self.select(datum) {
+            None => self.take_elsewhere(datum),
+            Some(selected) => self.take_in(&selected, datum),
         }
-        self.half = None;
-        if let Some(selected) = selected
-            && !datum.dtack
-        {
-            self.note(&selected, datum);
-        }
-        Ok(())
     }
 
     /// Takes the next access by the local port of a board. One that is not within the board changes
@@ -131,284 +110,225 @@ impl Answers {
     ///
     /// # Errors
     ///
-    /// It finds other bytes than the memory may have: J23. Nothing has changed then.
-    pub fn take_local(&mut self, board: usize, access: &Local) -> Result<(), Wrong> {
-        let Some(row) = self.rows.get(board) else {
-            return Ok(());
+    /// It finds other bytes than the memory may have: J23.
+    #[tactic(auto, unfolding(crate::specs::Taking::local_taken))]
+    pub fn take_local(&mut self, board: usize, access: &Local) -> Result<(), Wrong>
+        ensures wrong { IfErr result (λ wrong. local_taken self.old board access.now ≡ Err wrong.rule) }
+        ensures taken { IsOk result → local_taken self.old board access.now ≡ Ok self.new }
+    {
+        let row = match self.rows.get(board) {
+            Some(row) => *row,
+            None => return Ok(()),
         };
         let selected = Selected {
             board,
             offset: access.offset,
-            row: *row,
+            row,
         };
-        if !self.fits(&selected, access.len) {
-            return Ok(());
+        match self.place(&selected, access.len) {
+            Some(at) => self.take_local_at(&selected, at, access),
+            None => Ok(()),
         }
-        let bytes = local_bytes(access);
-        if access.write {
-            self.store(&selected, access.len, bytes);
-            self.tear(&selected, access.len);
-            return Ok(());
-        }
-        if !self.may_find(&selected, access.len, bytes) {
-            return Err(Wrong {
-                rule: Rule::WrongBytes,
-                board: Some(board),
-                offset: access.offset,
-                len: access.len,
-                known: self.known(&selected, access.len),
-            });
-        }
-        self.find(&selected, access.len, bytes);
-        Ok(())
     }
 
     /// The board that a datum selects, and the offset of its first byte.
-    fn select(&self, datum: &Datum) -> Option<Selected> {
+    #[tactic(auto, unfolding(crate::specs::Selecting::select))]
+    fn select(&self, datum: &Datum) -> Option<Selected>
+        ensures { result ≡ select self.now.entries self.now.rows datum.now }
+    {
         let Ok(am) = Am::from_code(datum.am) else {
             return None;
         };
         let (board, first) = self.map.select_at(am, datum.first)?;
-        let row = self.rows.get(board)?;
+        let row = *self.rows.get(board)?;
         let offset = first.checked_add(datum.addr.checked_sub(datum.first)?)?;
-        Some(Selected {
-            board,
-            offset,
-            row: *row,
+        Some(Selected { board, offset, row })
+    }
+
+    /// The place of some bytes of a board, if they are within it.
+    fn place(&self, selected: &Selected, len: u8) -> Option<usize>
+        ensures value { result ≡ place self.now selected.now len }
+        ensures within { IfSome result (λ at. at + len ≤ length self.now.bytes) }
+    {
+        let end = u64::from(selected.offset) + u64::from(len);
+        let room = self.bytes.len().checked_sub(selected.row.start)?;
+        if end > u64::from(selected.row.size) || end > room as u64 {
+            return None;
+        }
+        Some(selected.row.start + selected.offset as usize)
+    }
+
+    /// Takes a datum that selects no board.
+    fn take_elsewhere(&mut self, datum: &Datum) -> Result<(), Wrong>
+        ensures wrong { IfErr result (λ wrong. taken_by self.old datum.now None ≡ Err wrong.rule) }
+        ensures taken { IsOk result → taken_by self.old datum.now None ≡ Ok self.new }
+    {
+        if datum.dtack || self.others {
+            self.half = None;
+            return Ok(());
+        }
+        Err(Wrong {
+            rule: Rule::NoBoard,
+            board: None,
+            offset: 0,
+            len: datum.len,
+            known: [None; 8],
         })
     }
 
-    /// The first rule that a datum breaks.
-    fn broken(&self, selected: &Option<Selected>, datum: &Datum) -> Option<Rule> {
-        let Some(selected) = selected else {
-            return if datum.dtack || self.others {
-                None
-            } else {
-                Some(Rule::NoBoard)
-            };
-        };
-        let can = self.fits(selected, datum.len) && has_cycle_of(selected, datum);
+    /// Takes a datum that selects a board.
+    fn take_in(&mut self, selected: &Selected, datum: &Datum) -> Result<(), Wrong>
+        ensures wrong { IfErr result (λ wrong.
+            taken_in self.old datum.now selected.now (place self.old selected.now datum.now.len) ≡ Err wrong.rule) }
+        ensures taken { IsOk result →
+            taken_in self.old datum.now selected.now (place self.old selected.now datum.now.len) ≡ Ok self.new }
+    {
+        if let Some(at) = self.place(selected, datum.len) {
+            return self.take_at(selected, at, datum);
+        }
         if datum.dtack {
-            return if can && !may_refuse(selected, datum) {
-                Some(Rule::BusError)
-            } else {
-                None
-            };
+            self.half = None;
+            return Ok(());
         }
-        if !can {
-            return Some(Rule::NoBoard);
-        }
-        self.broken_by_bytes(selected, datum)
+        Err(self.wrong(Rule::NoBoard, selected, datum.len))
     }
 
-    /// The first rule of the memory that a datum breaks that the board answers.
-    fn broken_by_bytes(&self, selected: &Selected, datum: &Datum) -> Option<Rule> {
-        if datum.write {
-            if !self.may_find(selected, datum.len, datum_bytes(datum)) {
-                return Some(Rule::WrongBytes);
+    /// Takes a datum that is within a board.
+    #[tactic(auto, unfolding(crate::specs::Taking::taken_at))]
+    fn take_at(&mut self, selected: &Selected, at: usize, datum: &Datum) -> Result<(), Wrong>
+        requires { at + datum.now.len ≤ length self.old.bytes }
+        ensures wrong { IfErr result (λ wrong. taken_at self.old datum.now selected.now at ≡ Err wrong.rule) }
+        ensures taken { IsOk result → taken_at self.old datum.now selected.now at ≡ Ok self.new }
+    {
+        let has_cycle = selected.has_cycle_of(datum);
+        if datum.dtack {
+            if has_cycle && !selected.may_refuse(datum) {
+                return Err(self.wrong(Rule::BusError, selected, datum.len));
             }
-            return None;
+            self.half = None;
+            return Ok(());
         }
-        match self.half {
-            Some(half) if is_second(datum) && half.torn => Some(Rule::TornModify),
-            _ => None,
+        if !has_cycle {
+            return Err(self.wrong(Rule::NoBoard, selected, datum.len));
         }
-    }
-
-    /// Takes a datum that DTACK* answers.
-    fn note(&mut self, selected: &Selected, datum: &Datum) {
-        let bytes = datum_bytes(datum);
-        if !datum.write {
-            self.store(selected, datum.len, bytes);
-            return;
-        }
-        self.find(selected, datum.len, bytes);
-        if !is_block(datum.am) {
-            self.half = Some(Half {
-                board: selected.board,
-                offset: selected.offset,
-                len: datum.len,
-                torn: false,
-            });
+        if datum.write {
+            self.take_read(selected, at, datum)
+        } else {
+            self.take_write(selected, at, datum)
         }
     }
 
-    /// Remembers that a local write has come to the bytes of a read half.
-    fn tear(&mut self, selected: &Selected, len: u8) {
-        if let Some(half) = &mut self.half
-            && half.board == selected.board
-            && u64::from(half.offset) < u64::from(selected.offset) + u64::from(len)
-            && u64::from(selected.offset) < u64::from(half.offset) + u64::from(half.len)
-        {
-            half.torn = true;
+    /// Takes a read.
+    #[tactic(auto, unfolding(crate::specs::Taking::read_taken))]
+    fn take_read(&mut self, selected: &Selected, at: usize, datum: &Datum) -> Result<(), Wrong>
+        requires { at + datum.now.len ≤ length self.old.bytes }
+        ensures wrong { IfErr result (λ wrong. read_taken self.old datum.now selected.now at ≡ Err wrong.rule) }
+        ensures taken { IsOk result → read_taken self.old datum.now selected.now at ≡ Ok self.new }
+    {
+        let wrong = self.wrong(Rule::WrongBytes, selected, datum.len);
+        let bytes = bytes_of(datum);
+        if !find_all(&mut self.bytes, at, bytes.as_slice()) {
+            return Err(wrong);
         }
+        self.half = half_after(selected, datum);
+        Ok(())
     }
 
-    /// Whether bytes lie within a board.
-    fn fits(&self, selected: &Selected, len: u8) -> bool {
-        let end = u64::from(selected.offset) + u64::from(len);
-        end <= u64::from(selected.row.size)
-            && end <= (self.bytes.len() as u64).saturating_sub(selected.row.start as u64)
-            && len <= 8
+    /// Takes a write.
+    #[tactic(auto, unfolding(crate::specs::Taking::write_taken))]
+    fn take_write(&mut self, selected: &Selected, at: usize, datum: &Datum) -> Result<(), Wrong>
+        requires { at + datum.now.len ≤ length self.old.bytes }
+        ensures wrong { IfErr result (λ wrong. write_taken self.old datum.now at ≡ Err wrong.rule) }
+        ensures taken { IsOk result → write_taken self.old datum.now at ≡ Ok self.new }
+    {
+        if is_second(datum) && is_torn(self.half) {
+            return Err(self.wrong(Rule::TornModify, selected, datum.len));
+        }
+        let bytes = bytes_of(datum);
+        store_all(&mut self.bytes, at, bytes.as_slice());
+        self.half = None;
+        Ok(())
     }
 
-    /// Whether bytes may be found.
-    fn may_find(&self, selected: &Selected, len: u8, bytes: [u8; 8]) -> bool {
-        may_find_all(&self.bytes, selected.first(), len, bytes)
+    /// Takes a local access that is within a board.
+    #[tactic(auto, unfolding(crate::specs::Taking::local_taken_at))]
+    fn take_local_at(&mut self, selected: &Selected, at: usize, access: &Local) -> Result<(), Wrong>
+        requires { at + access.now.len ≤ length self.old.bytes }
+        ensures wrong { IfErr result (λ wrong. local_taken_at self.old access.now selected.now at ≡ Err wrong.rule) }
+        ensures taken { IsOk result → local_taken_at self.old access.now selected.now at ≡ Ok self.new }
+    {
+        let wrong = self.wrong(Rule::WrongBytes, selected, access.len);
+        let bytes = local_bytes(access);
+        if access.write {
+            store_all(&mut self.bytes, at, bytes.as_slice());
+            self.half = half_torn(selected, access.len, self.half);
+            return Ok(());
+        }
+        if !find_all(&mut self.bytes, at, bytes.as_slice()) {
+            return Err(wrong);
+        }
+        Ok(())
     }
 
-    fn find(&mut self, selected: &Selected, len: u8, bytes: [u8; 8]) {
-        find_all(&mut self.bytes, selected.first(), len, bytes);
-    }
-
-    fn store(&mut self, selected: &Selected, len: u8, bytes: [u8; 8]) {
-        store_all(&mut self.bytes, selected.first(), len, bytes);
-    }
-
-    fn known(&self, selected: &Selected, len: u8) -> [Option<u8>; 8] {
-        known_all(&self.bytes, selected.first(), len)
-    }
-
-    /// Why a datum is not the answer of a board.
-    fn wrong(&self, rule: Rule, selected: &Option<Selected>, datum: &Datum) -> Wrong {
-        match selected {
-            Some(selected) => Wrong {
-                rule,
-                board: Some(selected.board),
-                offset: selected.offset,
-                len: datum.len,
-                known: self.known(selected, datum.len),
-            },
-            None => Wrong {
-                rule,
-                board: None,
-                offset: 0,
-                len: datum.len,
-                known: [None; 8],
-            },
+    /// Why an answer is not that of a board.
+    fn wrong(&self, rule: Rule, selected: &Selected, len: u8) -> Wrong
+        ensures { result.rule ≡ rule }
+    {
+        let at = selected.row.start.saturating_add(selected.offset as usize);
+        Wrong {
+            rule,
+            board: Some(selected.board),
+            offset: selected.offset,
+            len,
+            known: known_from(&self.bytes, at, len),
         }
     }
 }
 
-impl Selected {
-    /// The place of its first byte among those of all boards.
-    fn first(&self) -> usize {
-        self.row.start.saturating_add(self.offset as usize)
+/// The read half that a read may be.
+fn half_after(selected: &Selected, datum: &Datum) -> Option<Half>
+    ensures { result ≡ half_after selected.now datum.now }
+{
+    if is_block(datum.am) {
+        return None;
+    }
+    Some(Half {
+        board: selected.board,
+        offset: selected.offset,
+        len: datum.len,
+        torn: false,
+    })
+}
+
+/// A read half after a local write.
+fn half_torn(selected: &Selected, len: u8, half: Option<Half>) -> Option<Half>
+    ensures { result ≡ half_torn selected.now len half }
+{
+    match half {
+        Some(half) => Some(Half {
+            torn: half.torn || selected.overlaps(len, &half),
+            ..half
+        }),
+        None => None,
+    }
+}
+
+/// Whether a local write has come to the bytes of a read half.
+fn is_torn(half: Option<Half>) -> bool
+    ensures { result ≡ is_torn half }
+{
+    match half {
+        Some(half) => half.torn,
+        None => false,
     }
 }
 
 /// Makes bytes of a board open, as far as they are there.
 fn make_open(bytes: &mut KnownBytes, row: &Row, open: &Open) {
     let len = bytes.len();
-    let from = row
-        .start
-        .saturating_add(open.from.min(row.size) as usize)
-        .min(len);
-    let to = row
-        .start
-        .saturating_add(open.to.min(row.size) as usize)
-        .min(len);
-    if from < to {
+    let from = row.start.saturating_add(open.from.min(row.size) as usize);
+    let to = row.start.saturating_add(open.to.min(row.size) as usize);
+    if from < to && to <= len {
         bytes.make_open(from, to);
     }
-}
-
-/// Whether a code is one of a block.
-fn is_block(am: u8) -> bool {
-    match Am::from_code(am) {
-        Ok(am) => am.kind().is_block(),
-        Err(_) => false,
-    }
-}
-
-/// Whether a datum is the write half of a read-modify-write.
-fn is_second(datum: &Datum) -> bool {
-    !is_block(datum.am) && datum.index > 0
-}
-
-/// Whether the class of a board has the cycle of a datum.
-fn has_cycle_of(selected: &Selected, datum: &Datum) -> bool {
-    let class = selected.row.class;
-    if is_second(datum) {
-        has_modify(class, selected.offset, datum.len)
-    } else {
-        has_datum(class, is_block(datum.am), selected.offset, datum.len)
-    }
-}
-
-/// Whether a board may answer a datum with BERR* though it has the cycle: it may be the read half of
-/// a read-modify-write that the board does not have.
-fn may_refuse(selected: &Selected, datum: &Datum) -> bool {
-    !is_block(datum.am)
-        && datum.write
-        && !has_modify(selected.row.class, selected.offset, datum.len)
-}
-
-/// The bytes of a datum, and zeros.
-fn datum_bytes(datum: &Datum) -> [u8; 8] {
-    let [a, b, c, d, e, f, g, h] = datum.lines.to_be_bytes();
-    match datum.lane {
-        4 => [e, f, g, h, 0, 0, 0, 0],
-        5 => [f, g, h, 0, 0, 0, 0, 0],
-        6 => [g, h, 0, 0, 0, 0, 0, 0],
-        7 => [h, 0, 0, 0, 0, 0, 0, 0],
-        _ => [a, b, c, d, e, f, g, h],
-    }
-}
-
-/// The bytes of a local access, and zeros.
-fn local_bytes(access: &Local) -> [u8; 8] {
-    let [a, b, c, d] = access.data.to_be_bytes();
-    match access.len {
-        1 => [d, 0, 0, 0, 0, 0, 0, 0],
-        2 => [c, d, 0, 0, 0, 0, 0, 0],
-        _ => [a, b, c, d, 0, 0, 0, 0],
-    }
-}
-
-/// Whether a byte may be found where this is known.
-fn may_be(known: Byte, byte: u8) -> bool {
-    match known {
-        Byte::Open | Byte::Unseen => true,
-        Byte::Known(value) => value == byte,
-    }
-}
-
-/// Whether bytes may be found, one after another, from a place on.
-fn may_find_all(known: &KnownBytes, first: usize, len: u8, bytes: [u8; 8]) -> bool {
-    for (byte, at) in bytes.iter().take(usize::from(len)).zip(first..known.len()) {
-        if !may_be(known.get(at), *byte) {
-            return false;
-        }
-    }
-    true
-}
-
-/// Takes bytes that are found, one after another, from a place on.
-fn find_all(known: &mut KnownBytes, first: usize, len: u8, bytes: [u8; 8]) {
-    for (byte, at) in bytes.iter().take(usize::from(len)).zip(first..known.len()) {
-        known.find(at, *byte);
-    }
-}
-
-/// Takes bytes that are stored, one after another, from a place on.
-fn store_all(known: &mut KnownBytes, first: usize, len: u8, bytes: [u8; 8]) {
-    for (byte, at) in bytes.iter().take(usize::from(len)).zip(first..known.len()) {
-        known.store(at, *byte);
-    }
-}
-
-/// What is known of bytes from a place on.
-fn known_all(known: &KnownBytes, first: usize, len: u8) -> [Option<u8>; 8] {
-    let mut all = [None; 8];
-    for (value, at) in all
-        .iter_mut()
-        .take(usize::from(len))
-        .zip(first..known.len())
-    {
-        if let Byte::Known(byte) = known.get(at) {
-            *value = Some(byte);
-        }
-    }
-    all
 }

@@ -4,8 +4,12 @@
 #![tactic(auto)]
 
 mod answers;
+mod board;
+mod bytes;
 mod class;
+mod selected;
 mod wrong;
 
-pub use answers::{Answers, BoardRule, Open};
+pub use answers::Answers;
+pub use board::{BoardRule, Open};
 pub use wrong::Wrong;
