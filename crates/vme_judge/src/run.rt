@@ -68,11 +68,18 @@ impl<'a> Run<'a> {
             let [byte, tail @ ..] = rest else {
                 break;
             };
-            if self.kind == Kind::Dump
-                && let Some(after) = self.vcd.push_line(rest)
-            {
-                rest = after;
-                continue;
+            if self.kind == Kind::Dump {
+                match self.vcd.push_line(rest) {
+                    Ok(None) => {}
+                    Ok(Some((step, after))) => {
+                        if !self.take_step(step)? {
+                            return Ok(false);
+                        }
+                        rest = after;
+                        continue;
+                    }
+                    Err(fault) => return self.reject_dump(fault),
+                }
             }
             rest = tail;
             let goes_on = match self.kind {
@@ -106,13 +113,21 @@ impl<'a> Run<'a> {
     #[inline]
     fn push_dump(&mut self, byte: u8) -> Result<bool, AllocError> {
         match self.vcd.push(byte) {
-            Ok(Step::More) => Ok(true),
-            Ok(Step::Header) => {
+            Ok(step) => self.take_step(step),
+            Err(fault) => self.reject_dump(fault),
+        }
+    }
+
+    /// Takes what a dump has completed.
+    #[inline]
+    fn take_step(&mut self, step: Step) -> Result<bool, AllocError> {
+        match step {
+            Step::More => Ok(true),
+            Step::Header => {
                 set_scope(&mut self.judge, &self.vcd.presence());
                 Ok(true)
             }
-            Ok(Step::Sample) => take_sample(&mut self.judge, &mut self.ports, &mut self.vcd),
-            Err(fault) => self.reject_dump(fault),
+            Step::Sample => take_sample(&mut self.judge, &mut self.ports, &mut self.vcd),
         }
     }
 

@@ -4,7 +4,7 @@ use crate::identifier::{NO_IDENTIFIER, identifier_of};
 use crate::matching::Matching;
 use crate::presence::Presence;
 use crate::table::Table;
-use crate::variable::{number, variable};
+use crate::variable::{named_variable, number};
 use crate::word::{Word, is_blank};
 use arrayvec::ArrayVec;
 use std::alloc::Global;
@@ -178,7 +178,7 @@ impl Header {
         if self.identifier == NO_IDENTIFIER {
             return Ok(());
         }
-        let found = variable(&self.name, self.size);
+        let found = named_variable(&self.name, self.size);
         let length = self.path.len();
         self.path.extend_from_slice(found.name)?;
         let taken = self.matching.take(

@@ -1,4 +1,4 @@
-//! Changes of 0 and 1 that stand whole on a line: most of a dump, read at once.
+//! Times, and changes of 0 and 1, that stand whole on a line: most of a dump, read at once.
 use crate::bits::Bits;
 use crate::identifier::{NO_IDENTIFIER, with_character};
 
@@ -9,6 +9,45 @@ pub(crate) struct Quick<'a> {
     pub(crate) bits: Bits,
     /// The text after the line.
     pub(crate) rest: &'a [u8],
+}
+
+/// A time that stands whole on a line at the start of a text.
+#[derive(Clone, Copy)]
+pub(crate) struct QuickTime<'a> {
+    pub(crate) time: u64,
+    /// The text after the line.
+    pub(crate) rest: &'a [u8],
+}
+
+/// The greatest time to which a digit is appended here.
+const MOST: u64 = 1 << 60;
+
+/// Returns the time of less than 2^60 that stands whole on a line at the start of a text, if there is
+/// one.
+#[inline]
+pub(crate) fn quick_time(text: &[u8]) -> Option<QuickTime<'_>> {
+    let [b'#', b'0'..=b'9', ..] = text else {
+        return None;
+    };
+    let digits = text.get(1..)?;
+    let mut time: u64 = 0;
+    for (place, byte) in digits.iter().enumerate() {
+        let digit = byte.wrapping_sub(b'0');
+        if digit <= 9 {
+            time = time.wrapping_mul(10).wrapping_add(u64::from(digit));
+            if MOST <= time {
+                return None;
+            }
+        } else if *byte == b'\n' {
+            return Some(QuickTime {
+                time,
+                rest: digits.get(place.saturating_add(1)..)?,
+            });
+        } else {
+            return None;
+        }
+    }
+    None
 }
 
 /// Returns the change of 0 and 1 that stands whole on a line at the start of a text, with one space

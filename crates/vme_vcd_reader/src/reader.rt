@@ -5,7 +5,7 @@ use crate::bus::BusLines;
 use crate::fault::VcdFault;
 use crate::header::{Header, Progress};
 use crate::presence::Presence;
-use crate::quick::quick_change;
+use crate::quick::{quick_change, quick_time};
 use crate::table::Table;
 use std::alloc::Global;
 use vme_line_map::LineMap;
@@ -121,20 +121,32 @@ impl<'a> VcdReader<'a> {
         Ok(step)
     }
 
-    /// Takes the change that stands whole on a line at the start of a text, if there is one of 0 and
-    /// 1, and returns the text after it. `push` of each byte of the line does the same.
+    /// Takes the time, or the change of 0 and 1, that stands whole on a line at the start of a text,
+    /// if there is one, and returns what it completes and the text after it. `push` of each byte of
+    /// the line does the same.
+    ///
+    /// # Errors
+    ///
+    /// The time falls.
     #[inline]
-    pub fn push_line<'b>(&mut self, text: &'b [u8]) -> Option<&'b [u8]> {
+    pub fn push_line<'b>(&mut self, text: &'b [u8]) -> Result<Option<(Step, &'b [u8])>, VcdFault> {
         if !self.is_body || !self.body.is_between() {
-            return None;
+            return Ok(None);
         }
-        let quick = quick_change(text)?;
-        for mapped in self.table.with(quick.identifier) {
-            self.bus.change(mapped, &quick.bits);
-            self.is_changed = true;
+        if let Some(quick) = quick_change(text) {
+            for mapped in self.table.with(quick.identifier) {
+                self.bus.change(mapped, &quick.bits);
+                self.is_changed = true;
+            }
+            self.line = self.line.wrapping_add(1);
+            return Ok(Some((Step::More, quick.rest)));
         }
+        let Some(quick) = quick_time(text) else {
+            return Ok(None);
+        };
+        let step = self.at_time(quick.time)?;
         self.line = self.line.wrapping_add(1);
-        Some(quick.rest)
+        Ok(Some((step, quick.rest)))
     }
 
     /// Ends the text, and returns whether it completes a sample.

@@ -26,7 +26,7 @@ pub(crate) struct Mapped {
 }
 
 /// Returns the variable with this name, to which a range may be appended.
-pub(crate) fn variable(name: &Word, size: u16) -> Variable<'_> {
+pub(crate) fn named_variable(name: &Word, size: u16) -> Variable<'_> {
     let whole = name.bytes();
     let plain = Variable {
         name: whole,
