@@ -2,3 +2,4 @@ pub mod Cycles
 pub mod Bytes
 pub mod Selecting
 pub mod Taking
+pub mod Running

@@ -7,9 +7,13 @@ mod answers;
 mod board;
 mod bytes;
 mod class;
+mod laws;
 mod selected;
 mod wrong;
 
 pub use answers::Answers;
 pub use board::{BoardRule, Open};
+pub use laws::{
+    cycles_are_those_of_the_board, taken_events_are_a_history, wrong_bytes_are_no_history,
+};
 pub use wrong::Wrong;
