@@ -114,7 +114,8 @@ under_by true true low h = absurd cc
 under_one : (w : Watch) (s : Sample) → broken w s ≡ None → is_under_address_strobe w.scope w.last s ≡ true
 unfolding has_lone_strobe
 under_one w s h =
-    under_by s.address_strobe (strobe_falls w.last s) (has_strobe s && (is_strict w.scope || not (has_answer w.last))) (none_lone w s h)
+    under_by s.address_strobe (strobe_falls w.last s) (has_strobe s && (is_strict w.scope || not (has_answer w.last || has_answer s)))
+    (none_lone w s h)
 
 -- a legal verdict: no rule is broken, and the rest is legal
 legal_parts : (found : Option Rule) (n : ℕ) (v : Verdict) → option_map_or (Illegal n) found v ≡ Legal → (found ≡ None) × (v ≡ Legal)

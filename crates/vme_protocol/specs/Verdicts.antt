@@ -20,11 +20,11 @@ unfoldable pub verdict : Scope → List Sample → Verdict
 verdict scope [] = Legal
 verdict scope (s ∷ samples) = verdict_after (started scope s) samples 1
 
--- whether no strobe is low in a sample, or AS* is low too, or, but for the model, the sample before has an answer;
+-- whether no strobe is low in a sample, or AS* is low too, or, but for the model, it or the one before has an answer;
 -- IEEE 1014-1987, 2.4 (data transfer bus timing)
 abbrev pub is_under_address_strobe : Scope → Sample → Sample → Bool
 is_under_address_strobe scope before s =
-    not (s.address_strobe && (has_strobe s && (is_strict scope || not (has_answer before))))
+    not (s.address_strobe && (has_strobe s && (is_strict scope || not (has_answer before || has_answer s))))
 
 -- the same of each of the samples that follow one
 abbrev pub are_under_address_strobe : Scope → Sample → List Sample → Bool

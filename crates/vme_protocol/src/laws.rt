@@ -21,7 +21,7 @@ pub fn illegal_traces_are_legal_before()
 {}
 
 /// States that in a legal trace each data strobe is low only while AS* is; but for the model, it may
-/// stay low after the answer.
+/// stay low from the answer on.
 pub fn strobes_are_low_under_the_address_strobe()
     ensures { (scope : Scope) (first : Sample) (samples : List Sample) →
         verdict scope (first ∷ samples) ≡ Legal → IsTrue (are_under_address_strobe scope first samples) }
