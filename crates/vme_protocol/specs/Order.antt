@@ -36,12 +36,12 @@ is_within w =
 unfoldable pub falls_early : Watch → Sample → Bool
 falls_early w s = address_strobe_falls w.last s && (w.scope.busy && s.busy || is_within w)
 
--- J4: AS* rises between a strobe and its answer; in the model before the strobes, or with no answer;
+-- J4: AS* rises between a strobe and its answer, and not with it; in the model before the strobes, or with no answer;
 -- IEEE 1014-1987, 2.4 (data transfer bus timing)
 unfoldable pub rises_early : Watch → Transfer → Sample → Bool
 rises_early w t s =
     address_strobe_rises w.last s
-    && (has_strobe w.last && not (has_answer w.last) || is_strict w.scope && (has_strobe s || not t.answered))
+    && (has_strobe w.last && not (has_answer w.last) && not (has_answer s) || is_strict w.scope && (has_strobe s || not t.answered))
 
 -- whether AM, and the address lines that count, have these levels in a sample
 abbrev pub stands : ℕ → ℕ → ℕ → Sample → Bool

@@ -97,7 +97,12 @@ impl Handshake {
     {
         if answer_falls(before, after) {
             let reading = reading_at(transfer, transfer.place_of(after), after);
-            (transfer.data_lanes(after), reading)
+            let lanes = if after.dtack {
+                0
+            } else {
+                transfer.data_lanes(after)
+            };
+            (lanes, reading)
         } else if strobe_rises(before, after) {
             (0, None)
         } else {

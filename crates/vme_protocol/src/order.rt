@@ -57,12 +57,12 @@ fn is_within(w: &Watch) -> bool
     }
 }
 
-/// Whether AS* rises between a strobe and its answer: J4.
+/// Whether AS* rises between a strobe and its answer: J4. It may rise at the time of the answer.
 #[tactic(auto, unfolding(crate::specs::Order::rises_early))]
 pub(crate) fn rises_early(w: &Watch, t: &Transfer, s: &Sample) -> bool
     ensures { result ≡ rises_early w.now t.now s.now }
 {
-    let is_unanswered = w.last.has_strobe() && !w.last.has_answer();
+    let is_unanswered = w.last.has_strobe() && !w.last.has_answer() && !s.has_answer();
     let is_short = w.scope.is_strict() && (s.has_strobe() || !t.answered);
     address_strobe_rises(&w.last, s) && (is_unanswered || is_short)
 }
