@@ -3,3 +3,4 @@ pub mod Bytes
 pub mod Selecting
 pub mod Taking
 pub mod Running
+pub mod Starting

@@ -1,5 +1,5 @@
 -- The accesses that the answers of a trace take, one event after another.
-use Rattle.std.specs.Prelude.{◌≡◌, ℕ, Bool, if◌then◌else◌, List, [], ◌∷◌, ◌++◌, slice_get, Option, Some, None, Result, Ok, Err}
+use Rattle.std.specs.Prelude.{◌≡◌, ℕ, if◌then◌else◌, List, [], ◌∷◌, ◌++◌, slice_get, Option, Some, None, Result, Ok}
 use Rattle.vme_known.specs.declared.access.Access.{Access}
 use Rattle.vme_protocol.specs.declared.datum.Datum.{Datum}
 use Rattle.vme_protocol.specs.declared.port.Local.{Local}

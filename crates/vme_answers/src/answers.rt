@@ -1,12 +1,14 @@
 ghost use Rattle.std.specs.Prelude.{◌≡◌, ◌+◌, ◌≤◌, length, replicate, None, Ok, Err, IsOk, IfOk, IfErr, IfSome};
 ghost use Rattle.vme_answers.specs.Selecting.{select};
+ghost use Rattle.vme_answers.specs.Starting.{started};
 ghost use Rattle.vme_answers.specs.Taking.{place, rested, half_after, half_torn, is_torn, read_taken, write_taken, taken_at, taken_in, taken_by, taken, local_taken_at, local_taken_in, local_taken};
 
 use crate::board::{BoardRule, Half, Open, Row};
 use crate::bytes::{bytes_of, find_all, known_from, local_bytes, store_all};
 use crate::selected::{Selected, is_block, is_second};
+use crate::starting::{entries_of, open_all, rows_of};
 use crate::wrong::Wrong;
-use std::alloc::{AllocError, Global};
+use std::alloc::Global;
 use std::marker::Model;
 use vme_am::Am;
 use vme_decode::{AddressMap, MapFault};
@@ -45,6 +47,7 @@ impl Answers {
     /// # Errors
     ///
     /// The fault of the boards' address map, or an allocation failed.
+    #[tactic(auto, unfolding(crate::specs::Starting::started))]
     pub fn new(
         alloc: Global,
         boards: &[BoardRule],
@@ -52,34 +55,13 @@ impl Answers {
         zero: bool,
         others: bool,
     ) -> Result<Answers, MapFault>
-        ensures others { IfOk result (λ a. a.others ≡ others) }
-        ensures half { IfOk result (λ a. a.half ≡ None) }
+        ensures { IfOk result (λ answers. answers ≡ started boards.now opens.now zero others) }
     {
-        let mut entries = Vec::with_capacity(alloc, boards.len())?;
-        let mut rows = Vec::with_capacity(alloc, boards.len())?;
-        let mut start: usize = 0;
-        for board in boards {
-            if let Err(error) = entries.push(board.entry) {
-                return Err(AllocError::from(error).into());
-            }
-            let row = Row {
-                start,
-                size: board.entry.size,
-                class: board.class,
-            };
-            if let Err(error) = rows.push(row) {
-                return Err(AllocError::from(error).into());
-            }
-            start = start.saturating_add(board.entry.size as usize);
-        }
-        let map = AddressMap::new(alloc, entries.as_slice())?;
+        let map = AddressMap::new(alloc, entries_of(alloc, boards)?.as_slice())?;
+        let (rows, len) = rows_of(alloc, boards)?;
         let byte = if zero { Byte::Known(0) } else { Byte::Unseen };
-        let mut bytes = KnownBytes::new(alloc, start, byte)?;
-        for open in opens {
-            if let Some(row) = rows.get(open.board) {
-                make_open(&mut bytes, row, open);
-            }
-        }
+        let mut bytes = KnownBytes::new(alloc, len, byte)?;
+        open_all(&mut bytes, rows.as_slice(), opens);
         Ok(Answers {
             map,
             rows,
@@ -320,15 +302,5 @@ fn is_torn(half: Option<Half>) -> bool
     match half {
         Some(half) => half.torn,
         None => false,
-    }
-}
-
-/// Makes bytes of a board open, as far as they are there.
-fn make_open(bytes: &mut KnownBytes, row: &Row, open: &Open) {
-    let len = bytes.len();
-    let from = row.start.saturating_add(open.from.min(row.size) as usize);
-    let to = row.start.saturating_add(open.to.min(row.size) as usize);
-    if from < to && to <= len {
-        bytes.make_open(from, to);
     }
 }

@@ -9,6 +9,7 @@ mod bytes;
 mod class;
 mod laws;
 mod selected;
+mod starting;
 mod wrong;
 
 pub use answers::Answers;
