@@ -53,7 +53,7 @@ impl Table {
         }
     }
 
-    /// Makes room for the places.
+    /// Allocates the places.
     pub(crate) fn begin(&mut self) -> Result<(), AllocError> {
         for _ in 0..PLACES {
             self.places.push(NONE)?;
