@@ -1,5 +1,6 @@
 -- Lemmas of the laws of verdicts.
 use Rattle.std.proofs.Common.{◌≡◌, ℕ, zero, suc, ◌+◌, ◌≤◌, Bool, true, false, not, ◌&&◌, ◌||◌, List, [], ◌∷◌, ◌++◌, take, Option, Some, None, refl, arith}
+use Rattle.std.specs.List.{list_all}
 use Rattle.std.specs.Option.{option_map_or}
 use Rattle.vme_protocol.specs.declared.sample.Sample.{Sample}
 use Rattle.vme_protocol.specs.declared.scope.Scope.{Scope}
@@ -12,7 +13,7 @@ use Rattle.vme_protocol.specs.Samples.{has_strobe, has_answer, strobe_falls}
 use Rattle.vme_protocol.specs.Scopes.{is_strict}
 use Rattle.vme_protocol.specs.Exchange.{has_lone_strobe}
 use Rattle.vme_protocol.specs.Watching.{started, watched, current, first_of, handshake_tests, lines_broken, handshake_broken, transfer_broken, broken}
-use Rattle.vme_protocol.specs.Verdicts.{verdict_after, verdict, is_under_address_strobe, are_under_address_strobe}
+use Rattle.vme_protocol.specs.Verdicts.{verdict_after, verdict, is_under_address_strobe}
 
 -- a verdict that stays illegal if the rest does
 stays_by : (found : Option Rule) (n at : ℕ) (rule : Rule) (v w : Verdict) → (v ≡ Illegal at rule → w ≡ Illegal at rule)
@@ -111,11 +112,10 @@ under_by true false low h = ap_not low h
 under_by true true low h = absurd cc
 
 -- a sample that breaks no rule has its strobes under AS*
-under_one : (w : Watch) (s : Sample) → broken w s ≡ None → is_under_address_strobe w.scope w.last s ≡ true
+under_one : (w : Watch) (s : Sample) → broken w s ≡ None → is_under_address_strobe w.scope s ≡ true
 unfolding has_lone_strobe
 under_one w s h =
-    under_by s.address_strobe (strobe_falls w.last s) (has_strobe s && (is_strict w.scope || not (has_answer w.last || has_answer s)))
-    (none_lone w s h)
+    under_by s.address_strobe (strobe_falls w.last s) (has_strobe s && (is_strict w.scope || not (has_answer s))) (none_lone w s h)
 
 -- a legal verdict: no rule is broken, and the rest is legal
 legal_parts : (found : Option Rule) (n : ℕ) (v : Verdict) → option_map_or (Illegal n) found v ≡ Legal → (found ≡ None) × (v ≡ Legal)
@@ -129,15 +129,15 @@ both_hold false b h k = h
 
 -- each strobe of legal samples is under AS*
 under_after : (w : Watch) (samples : List Sample) (n : ℕ) → verdict_after w samples n ≡ Legal
-    → are_under_address_strobe w.scope w.last samples ≡ true
+    → list_all (is_under_address_strobe w.scope) samples ≡ true
 unfolding watched
 under_after w [] n h = refl
 under_after w (s ∷ samples) n h =
     let parts = legal_parts (broken w s) n (verdict_after (watched w s) samples (n + 1)) h in
-    both_hold (is_under_address_strobe w.scope w.last s) _ (under_one w s parts.0) (under_after (watched w s) samples (n + 1) parts.1)
+    both_hold (is_under_address_strobe w.scope s) _ (under_one w s parts.0) (under_after (watched w s) samples (n + 1) parts.1)
 
 -- the same of a trace
 pub under : (scope : Scope) (first : Sample) (samples : List Sample) → verdict scope (first ∷ samples) ≡ Legal
-    → are_under_address_strobe scope first samples ≡ true
+    → list_all (is_under_address_strobe scope) samples ≡ true
 unfolding verdict
 under scope first samples h = under_after (started scope first) samples 1 h

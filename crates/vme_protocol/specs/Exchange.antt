@@ -10,12 +10,11 @@ use Rattle.vme_protocol.specs.Lines.{meet, moved}
 use Rattle.vme_protocol.specs.Handshakes.{moved_after}
 use Rattle.vme_protocol.specs.Places.{data_lanes, breaks_transfer}
 
--- J6: a strobe is low while AS* is high: it falls there, or AS* rises before the answer, in the model before the strobe;
+-- J6: a strobe is low while AS* is high: it falls there, or no answer is low, in the model whatever the answer;
 -- IEEE 1014-1987, 2.4 (data transfer bus timing)
 unfoldable pub has_lone_strobe : Watch → Sample → Bool
 has_lone_strobe w s =
-    s.address_strobe
-    && (strobe_falls w.last s || has_strobe s && (is_strict w.scope || not (has_answer w.last || has_answer s)))
+    s.address_strobe && (strobe_falls w.last s || has_strobe s && (is_strict w.scope || not (has_answer s)))
 
 -- whether WRITE* changes as a strobe falls, or while one is low
 abbrev pub write_changes : Watch → Transfer → Sample → Bool

@@ -31,10 +31,16 @@ abbrev pub reading_at : Transfer → Option Place → Sample → Option Datum
 reading_at t None s = None
 reading_at t (Some place) s = if s.write && not s.dtack && not (is_address_phase t s) then Some (datum_at t place s) else None
 
--- the lines, with DTACK* alone, and the datum of a read between its answer and the first strobe's rise
+-- the data lines of a read that is answered
+abbrev pub read_lanes : Transfer → Sample → Option Datum → ℕ
+read_lanes t s None = 0
+read_lanes t s (Some datum) = data_lanes t s
+
+-- the lines and the datum of a read between its answer and the first strobe's rise
 abbrev pub reading_after : Handshake → Transfer → Sample → Sample → ℕ × Option Datum
 reading_after h t before after =
-    if answer_falls before after then ((if after.dtack then 0 else data_lanes t after), reading_at t (place_of t after) after)
+    if answer_falls before after
+    then (read_lanes t after (reading_at t (place_of t after) after), reading_at t (place_of t after) after)
     else if strobe_rises before after then (0, None)
     else (h.lanes, h.reading)
 

@@ -1,5 +1,5 @@
 -- The verdict on a trace.
-use Rattle.std.specs.Prelude.{ℕ, ◌+◌, Bool, true, not, ◌&&◌, ◌||◌, List, [], ◌∷◌}
+use Rattle.std.specs.Prelude.{ℕ, ◌+◌, Bool, not, ◌&&◌, ◌||◌, List, [], ◌∷◌}
 use Rattle.std.specs.Option.{option_map_or}
 use Rattle.vme_protocol.specs.declared.sample.Sample.{Sample}
 use Rattle.vme_protocol.specs.declared.scope.Scope.{Scope}
@@ -20,14 +20,8 @@ unfoldable pub verdict : Scope → List Sample → Verdict
 verdict scope [] = Legal
 verdict scope (s ∷ samples) = verdict_after (started scope s) samples 1
 
--- whether no strobe is low in a sample, or AS* is low too, or, but for the model, it or the one before has an answer;
+-- whether no strobe is low in a sample, or AS* is low too, or, but for the model, an answer;
 -- IEEE 1014-1987, 2.4 (data transfer bus timing)
-abbrev pub is_under_address_strobe : Scope → Sample → Sample → Bool
-is_under_address_strobe scope before s =
-    not (s.address_strobe && (has_strobe s && (is_strict scope || not (has_answer before || has_answer s))))
-
--- the same of each of the samples that follow one
-abbrev pub are_under_address_strobe : Scope → Sample → List Sample → Bool
-are_under_address_strobe scope before [] = true
-are_under_address_strobe scope before (s ∷ samples) =
-    is_under_address_strobe scope before s && are_under_address_strobe scope s samples
+abbrev pub is_under_address_strobe : Scope → Sample → Bool
+is_under_address_strobe scope s =
+    not (s.address_strobe && (has_strobe s && (is_strict scope || not (has_answer s))))

@@ -12,8 +12,7 @@ use crate::watch::Watch;
 pub(crate) fn has_lone_strobe(w: &Watch, s: &Sample) -> bool
     ensures { result ≡ has_lone_strobe w.now s.now }
 {
-    let is_answered = w.last.has_answer() || s.has_answer();
-    let is_held = w.scope.is_strict() || !is_answered;
+    let is_held = w.scope.is_strict() || !s.has_answer();
     s.address_strobe && (strobe_falls(&w.last, s) || s.has_strobe() && is_held)
 }
 

@@ -1,5 +1,5 @@
 ghost use Rattle.std.specs.Prelude.{◌≡◌, Option};
-ghost use Rattle.vme_protocol.specs.Handshakes.{fresh, moved_after, vague_after, since_after, after_sample, reading_after, reading_at};
+ghost use Rattle.vme_protocol.specs.Handshakes.{fresh, moved_after, vague_after, since_after, after_sample, read_lanes, reading_after, reading_at};
 
 use crate::datum::Datum;
 use crate::lines::{moved, vague};
@@ -97,17 +97,23 @@ impl Handshake {
     {
         if answer_falls(before, after) {
             let reading = reading_at(transfer, transfer.place_of(after), after);
-            let lanes = if after.dtack {
-                0
-            } else {
-                transfer.data_lanes(after)
-            };
+            let lanes = read_lanes(transfer, after, reading);
             (lanes, reading)
         } else if strobe_rises(before, after) {
             (0, None)
         } else {
             (self.lanes, self.reading)
         }
+    }
+}
+
+/// The data lines of a read that is answered.
+fn read_lanes(transfer: &Transfer, s: &Sample, reading: Option<Datum>) -> u64
+    ensures { result ≡ read_lanes transfer.now s.now reading }
+{
+    match reading {
+        Some(_) => transfer.data_lanes(s),
+        None => 0,
     }
 }
 

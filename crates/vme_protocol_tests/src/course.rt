@@ -2,7 +2,7 @@
 use vme_protocol::{Mode, Sample, Scope};
 
 /// The number of samples.
-pub const STEPS: usize = 18;
+pub const STEPS: usize = 19;
 
 /// The scope of a trace that has all lines.
 pub fn scope(mode: Mode) -> Scope {
@@ -99,29 +99,30 @@ pub fn course() -> [Sample; STEPS] {
         ds1: false,
         ..reopened
     };
+    let waits = Sample { time: 14, ..asked };
     let answered = Sample {
-        time: 14,
+        time: 15,
         dtack: false,
         lines: lines(0x5a),
-        ..asked
+        ..waits
     };
     let stands = Sample {
-        time: 15,
+        time: 16,
         ..answered
     };
     let found = Sample {
-        time: 16,
+        time: 17,
         ds1: true,
         ..stands
     };
     let closed = Sample {
-        time: 17,
+        time: 18,
         dtack: true,
         address_strobe: true,
         ..found
     };
     [
         rest, requested, granted, taken, held, addressed, opened, strobed, written, risen, ended,
-        again, reopened, asked, answered, stands, found, closed,
+        again, reopened, asked, waits, answered, stands, found, closed,
     ]
 }

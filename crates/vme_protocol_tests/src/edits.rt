@@ -65,8 +65,8 @@ fn edited(edit: Edit, s: Sample) -> Sample {
     }
 }
 
-/// The first and the last sample that are edited, the edit, and the sample and rule by which both modes
-/// find it.
+/// The first and the last sample that are edited, the edit, and the sample and rule by which both
+/// modes find it.
 static BROKEN: [(usize, usize, Edit, usize, Rule); 37] = [
     (1, 1, Edit::Undefined, 1, Rule::Undefined),
     (6, 10, Edit::AmUndefined, 6, Rule::Undefined),
@@ -80,12 +80,18 @@ static BROKEN: [(usize, usize, Edit, usize, Rule); 37] = [
     (7, 7, Edit::WriteUndefined, 7, Rule::Undefined),
     (8, 8, Edit::LinesUndefined(0x100), 8, Rule::Undefined),
     (6, 6, Edit::LinesUndefined(0x8000), 8, Rule::Undefined),
-    (15, 15, Edit::LinesUndefined(0x8000), 16, Rule::Undefined),
+    (16, 16, Edit::LinesUndefined(0x8000), 17, Rule::Undefined),
     (5, 10, Edit::Am(0x10), 8, Rule::CodeUnknown),
     (5, 10, Edit::Am(0x00), 8, Rule::CodeUnknown),
     (5, 10, Edit::Busy(true), 5, Rule::TwoHolders),
     (6, 9, Edit::AddressStrobe(true), 7, Rule::LoneStrobe),
-    (8, 8, Edit::AddressStrobe(true), 8, Rule::AddressStrobeRises),
+    (
+        14,
+        14,
+        Edit::AddressStrobe(true),
+        14,
+        Rule::AddressStrobeRises,
+    ),
     (6, 10, Edit::Am(0x0d), 6, Rule::AddressChanges),
     (
         6,
@@ -110,10 +116,10 @@ static BROKEN: [(usize, usize, Edit, usize, Rule); 37] = [
     (6, 6, Edit::Berr(false), 6, Rule::AnswerAlone),
     (8, 9, Edit::Dtack(true), 9, Rule::StrobeRises),
     (9, 9, Edit::Ds0(false), 9, Rule::StrobeRises),
-    (15, 15, Edit::Ds0(false), 15, Rule::StrobeRises),
+    (16, 16, Edit::Ds0(false), 16, Rule::StrobeRises),
     (8, 8, Edit::Berr(false), 8, Rule::TwoAnswers),
-    (15, 16, Edit::Berr(false), 15, Rule::TwoAnswers),
-    (15, 16, Edit::Dtack(true), 15, Rule::AnswerRises),
+    (16, 17, Edit::Berr(false), 16, Rule::TwoAnswers),
+    (16, 17, Edit::Dtack(true), 16, Rule::AnswerRises),
     (5, 10, Edit::Lines(0x1002_0000_5a00), 8, Rule::Transfer),
     (6, 8, Edit::Drivers(3), 6, Rule::TwoHolders),
     (5, 5, Edit::Drivers(0), 5, Rule::TwoHolders),
@@ -121,8 +127,8 @@ static BROKEN: [(usize, usize, Edit, usize, Rule); 37] = [
     (2, 2, Edit::Grants(0), 3, Rule::Grant),
     (2, 4, Edit::Grants(3), 3, Rule::Grant),
     (8, 8, Edit::Grants(1), 8, Rule::Grant),
-    (8, 17, Edit::Time(108), 8, Rule::Timeout),
-    (3, 17, Edit::Busy(true), 3, Rule::TwoHolders),
+    (8, 18, Edit::Time(108), 8, Rule::Timeout),
+    (3, 18, Edit::Busy(true), 3, Rule::TwoHolders),
 ];
 
 /// Edits that break no rule in either mode.
@@ -135,24 +141,31 @@ static LEGAL: [(usize, usize, Edit); 14] = [
     (12, 13, Edit::Lines(0x1001_00ff_ff00)),
     (10, 10, Edit::Dtack(false)),
     (2, 2, Edit::Requests(3)),
-    (1, 17, Edit::Time(107)),
-    (5, 17, Edit::Am(0x0d)),
-    (5, 17, Edit::Am(0x2f)),
-    (5, 17, Edit::Iack(false)),
+    (1, 18, Edit::Time(107)),
+    (5, 18, Edit::Am(0x0d)),
+    (5, 18, Edit::Am(0x2f)),
+    (5, 18, Edit::Iack(false)),
     (5, 10, Edit::Lines(0x1003_0000_5a00)),
-    (17, 17, Edit::Dtack(true)),
+    (18, 18, Edit::Dtack(true)),
 ];
 
 /// Edits that the rules of the bus allow, and those of the model do not.
-static MODEL: [(usize, usize, Edit, usize, Rule); 4] = [
+static MODEL: [(usize, usize, Edit, usize, Rule); 5] = [
+    (
+        8,
+        10,
+        Edit::AddressStrobe(true),
+        8,
+        Rule::AddressStrobeRises,
+    ),
     (10, 12, Edit::Dtack(false), 12, Rule::AddressStrobeFalls),
     (9, 10, Edit::Am(0x0d), 9, Rule::AddressChanges),
-    (15, 15, Edit::Lines(0x1001_0000_5b00), 15, Rule::DataChange),
+    (16, 16, Edit::Lines(0x1001_0000_5b00), 16, Rule::DataChange),
     (
-        15,
-        17,
+        16,
+        18,
         Edit::AddressStrobe(true),
-        15,
+        16,
         Rule::AddressStrobeRises,
     ),
 ];
@@ -161,7 +174,7 @@ static MODEL: [(usize, usize, Edit, usize, Rule); 4] = [
 static LINE: [(usize, usize, Edit, usize, Rule); 3] = [
     (6, 6, Edit::Busy(true), 6, Rule::AddressStrobeFalls),
     (10, 13, Edit::Dtack(false), 13, Rule::StrobeUnderAnswer),
-    (12, 17, Edit::Busy(true), 12, Rule::AddressStrobeFalls),
+    (12, 18, Edit::Busy(true), 12, Rule::AddressStrobeFalls),
 ];
 
 /// Returns the course with a line edited from one sample to another.

@@ -183,6 +183,7 @@ fn run(
         let answered = Sample {
             dtack: *berr,
             berr: !*berr,
+            lines_undefined: if *berr { 0xffff_ffff } else { 0 },
             ..low
         };
         let high = Sample {
