@@ -1,4 +1,5 @@
 //! The command line of the program as tables: its subcommands, and the words that each takes.
+use crate::judge_words::JUDGE;
 
 /// What a word of the command line takes.
 #[derive(Clone, Copy)]
@@ -62,8 +63,8 @@ const FILE: Word = Word {
     help: "A configuration file; - is standard input",
 };
 
-/// The option `--json` of `check`, `cycles`, `explain` and `outcomes`.
-const JSON: Word = Word {
+/// The option `--json` of `check`, `cycles`, `explain`, `judge` and `outcomes`.
+pub(crate) const JSON: Word = Word {
     name: "json",
     value: "",
     kind: Kind::Flag,
@@ -284,7 +285,7 @@ spaces, a line has at most 80 bytes, and a comment is a line that begins with #.
 ";
 
 /// Returns the subcommands, in the order in which the help lists them.
-pub(crate) fn forms() -> [Form; 9] {
+pub(crate) fn forms() -> [Form; 10] {
     [
         Form {
             name: "check",
@@ -333,6 +334,12 @@ pub(crate) fn forms() -> [Form; 9] {
             about: "Write timing diagrams of the run of vme step, and its report, as a page of HTML",
             end: "Status: 0 written, 2 wrong words or no configuration, 3 a fault",
             words: PAGE.as_slice(),
+        },
+        Form {
+            name: "judge",
+            about: "Say whether a recorded trace of a bus is legal, or where it is not, and by which rule",
+            end: "Status: 0 legal, 1 illegal, 2 wrong words, no configuration or no trace, 3 a fault",
+            words: JUDGE.as_slice(),
         },
         Form {
             name: "lines",

@@ -45,7 +45,11 @@ pub(crate) fn read_named(rt: &HostRuntime, path: &str) -> Result<Option<Vec<u8>>
 }
 
 /// The bytes of an input. `None` if it cannot be read, which is reported.
-fn bytes_of(rt: &HostRuntime, name: &str, input: Input) -> Result<Option<Vec<u8>>, Fault> {
+pub(crate) fn bytes_of(
+    rt: &HostRuntime,
+    name: &str,
+    input: Input,
+) -> Result<Option<Vec<u8>>, Fault> {
     match input {
         Input::Bytes(bytes) => Ok(Some(bytes)),
         Input::Unread(why) => {

@@ -4,10 +4,11 @@
 //! cycles` those of request lines, `bendrika explain` prints what a code or a reply of `vme` means,
 //! `bendrika serve` answers lines one by one, `bendrika outcomes` lists every outcome of a file,
 //! `bendrika trace` writes the waveforms of its run, `bendrika page` a page with its timing diagrams,
-//! `bendrika split` a file with the accesses of a narrower processor, and `bendrika lines` shows the
-//! syntax of lines. The exit status is 0; 1 after errors in an input or if a condition fails; 2 for
-//! wrong words, or a file of `outcomes`, `page`, `split` or `trace` that is no configuration; 3 after
-//! a fault; 4 if there are more states than the limit.
+//! `bendrika split` a file with the accesses of a narrower processor, `bendrika judge` says whether a
+//! recorded trace of a bus is legal, and `bendrika lines` shows the syntax of lines. The exit status
+//! is 0; 1 after errors in an input, if a condition fails or if a trace is illegal; 2 for wrong words,
+//! a file of another command than `check` that is no configuration, or a text that is no trace; 3
+//! after a fault; 4 if there are more states than the limit.
 #![tactic(auto)]
 
 mod check;
@@ -16,6 +17,8 @@ mod fault;
 mod forms;
 mod gathered;
 mod input;
+mod judge;
+mod judge_words;
 mod memory;
 mod outcomes;
 mod outcomes_json;
@@ -30,6 +33,7 @@ use crate::check::{checked, requests_checked};
 use crate::explain::explained;
 use crate::fault::{Fault, fault_of, printed};
 use crate::forms::LINES;
+use crate::judge::judged;
 use crate::outcomes::listed;
 use crate::page::paged;
 use crate::serve::served;
@@ -70,6 +74,7 @@ fn run(rt: &HostRuntime) -> Result<Status, Fault> {
             Some(("check", words)) => checked(rt, words),
             Some(("cycles", words)) => requests_checked(rt, words),
             Some(("explain", words)) => explained(rt, words),
+            Some(("judge", words)) => judged(rt, words),
             Some(("outcomes", words)) => listed(rt, words),
             Some(("page", words)) => paged(rt, words),
             Some(("serve", words)) => served(rt, words),

@@ -5,10 +5,10 @@
 pub(crate) enum Status {
     /// The command did what it was asked to, and found no error.
     Done,
-    /// An input has an error, or a condition on the outcomes fails.
+    /// An input has an error, a condition on the outcomes fails, or a trace is illegal.
     Errors,
-    /// The words are wrong, or the file of `outcomes`, `page`, `split` or `trace` is no
-    /// configuration.
+    /// The words are wrong, the file of another command than `check` is no configuration, or a text
+    /// is no trace.
     WrongWords,
     /// An input or a device failed, or an allocation.
     Fault,

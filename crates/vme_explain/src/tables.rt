@@ -2,6 +2,7 @@
 
 mod faults;
 mod files;
+mod judgements;
 mod lines;
 mod replies;
 mod requests;
@@ -9,6 +10,7 @@ mod warnings;
 
 pub(crate) use faults::FAULTS;
 pub(crate) use files::FILES;
+pub(crate) use judgements::JUDGEMENTS;
 pub(crate) use lines::LINES;
 pub(crate) use replies::REPLIES;
 pub(crate) use requests::REQUESTS;

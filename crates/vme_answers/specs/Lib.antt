@@ -1,0 +1,6 @@
+pub mod Cycles
+pub mod Bytes
+pub mod Selecting
+pub mod Taking
+pub mod Running
+pub mod Starting

@@ -1,0 +1,81 @@
+//! The bytes of a datum or a local access, and what is known of them.
+ghost use Rattle.std.specs.Prelude.{◌≡◌, ◌+◌, ◌≤◌, length, IsTrue};
+ghost use Rattle.vme_known.specs.Judging.{may_all_come};
+ghost use Rattle.vme_answers.specs.Bytes.{finds, stores, all_after, bytes_of, local_bytes};
+
+use vme_known::{Byte, KnownBytes};
+use vme_lanes::Datum as Bytes;
+use vme_protocol::{Datum, Local};
+
+/// The bytes of a datum, in order of address.
+pub(crate) fn bytes_of(datum: &Datum) -> Bytes
+    ensures value { result.items ≡ bytes_of datum.now }
+    ensures len { length result.items ≤ datum.now.len }
+{
+    if u32::from(datum.lane) + u32::from(datum.len) > 8 {
+        return Bytes::new();
+    }
+    datum.bytes()
+}
+
+/// The bytes of a local access, in order of address.
+pub(crate) fn local_bytes(local: &Local) -> Bytes
+    ensures value { result.items ≡ local_bytes local.now }
+    ensures len { length result.items ≤ local.now.len }
+{
+    if local.len > 4 {
+        return Bytes::new();
+    }
+    let bytes = local.data.to_be_bytes();
+    Bytes::try_from(&bytes[usize::from(4 - local.len)..4]).unwrap()
+}
+
+/// Takes bytes that a read found from a place on, up to one that may not be found, and returns whether
+/// there is none.
+pub(crate) fn find_all(known: &mut KnownBytes, at: usize, bytes: &[u8]) -> bool
+    requires { at + length bytes.now ≤ length known.old }
+    ensures answer { result ≡ may_all_come known.old (finds at bytes.now) }
+    ensures known { IsTrue result → known.new ≡ all_after known.old (finds at bytes.now) }
+    ensures len { length known.new ≡ length known.old }
+{
+    // A place up to the end can be counted.
+    let _end = known.len();
+    let mut place = at;
+    for byte in bytes {
+        if !known.find(place, *byte) {
+            return false;
+        }
+        place += 1;
+    }
+    true
+}
+
+/// Takes bytes that a write stored from a place on.
+pub(crate) fn store_all(known: &mut KnownBytes, at: usize, bytes: &[u8])
+    requires { at + length bytes.now ≤ length known.old }
+    ensures known { known.new ≡ all_after known.old (stores at bytes.now) }
+    ensures len { length known.new ≡ length known.old }
+{
+    // A place up to the end can be counted.
+    let _end = known.len();
+    let mut place = at;
+    for byte in bytes {
+        known.store(place, *byte);
+        place += 1;
+    }
+}
+
+/// What is known of some bytes from a place on; nothing of those that are not there.
+pub(crate) fn known_from(known: &KnownBytes, at: usize, len: u8) -> [Option<u8>; 8] {
+    let mut all = [None; 8];
+    for (i, value) in all.iter_mut().enumerate() {
+        let place = at.saturating_add(i);
+        if i < usize::from(len)
+            && place < known.len()
+            && let Byte::Known(byte) = known.get(place)
+        {
+            *value = Some(byte);
+        }
+    }
+    all
+}

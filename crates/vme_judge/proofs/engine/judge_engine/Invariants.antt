@@ -1,0 +1,9 @@
+use Rattle.std.proofs.Common.{◌≡◌, false}
+use Rattle.vme_judge.proofs.engine.judge_engine.Given as goal
+
+-- no device has failed
+abbrev pub invariant-loop-piece : goal.invariant-loop-piece
+invariant-loop-piece g l = record {
+  read : g.S.Source.is_marked l.trace ≡ false;
+  write : g.W.Sink.is_marked l.writer ≡ false;
+}

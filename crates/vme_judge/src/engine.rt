@@ -1,0 +1,92 @@
+//! The engine of `bendrika judge`.
+ghost use Rattle.std.specs.Prelude.{◌≡◌, false};
+ghost use Rattle.vme_judge.specs.Faults.{is_read_end, is_write_end};
+
+use crate::boards::Board;
+use crate::fault::{JudgeFault, Status};
+use crate::options::Options;
+use crate::run::Run;
+use crate::verdict::write_end;
+use std::alloc::Global;
+use vme_io::{Sink, Source, write_all};
+use vme_line_map::LineMap;
+
+/// The number of bytes that one read asks for.
+const PIECE: usize = 16_384;
+
+/// Judges a trace, a dump or a bus log, by the boards of a configuration, and writes the verdict.
+///
+/// The trace is judged while it is read: after a sample that is not legal nothing more is read. No
+/// clause states the text or the status.
+///
+/// # Errors
+///
+/// `Read` or `Write`: the reader or the writer failed. `Memory`: an allocation failed. `TooLong`:
+/// the trace has 2^64 - 1 pieces or more.
+pub fn judge_engine<S: Source, W: Sink>(
+    alloc: Global,
+    options: &Options<'_>,
+    map: &LineMap,
+    boards: &[Board],
+    trace: &mut S,
+    writer: &mut W,
+) -> Result<Status, JudgeFault>
+    requires reader_unmarked { S.is_marked trace.old ≡ false }
+    requires writer_unmarked { W.is_marked writer.old ≡ false }
+    ensures read { S.is_marked trace.new ≡ is_read_end result }
+    ensures write { W.is_marked writer.new ≡ is_write_end result }
+{
+    let mut run = Run::new(alloc, options, map, boards)?;
+    let mut buffer = [0u8; PIECE];
+    for _piece in 0..u64::MAX {
+        let Ok(count) = trace.read(&mut buffer) else {
+            return Err(JudgeFault::Read);
+        };
+        if count == 0 {
+            run.end()?;
+            return written(alloc, &run, options, map, writer);
+        }
+        if !run.push_all(&buffer[..count])? {
+            return written(alloc, &run, options, map, writer);
+        }
+        write_log(&mut run.judge.log, writer)?;
+    }
+    Err(JudgeFault::TooLong)
+}
+
+/// Writes the lines of the bus log that are not written yet.
+fn write_log<W: Sink>(log: &mut String, writer: &mut W) -> Result<(), JudgeFault>
+    requires { W.is_marked writer.old ≡ false }
+    ensures read { is_read_end result ≡ false }
+    ensures write { W.is_marked writer.new ≡ is_write_end result }
+{
+    if log.is_empty() {
+        return Ok(());
+    }
+    write_all(writer, log.as_bytes())?;
+    log.clear();
+    Ok(())
+}
+
+/// Writes the verdict, and returns the status.
+fn written<W: Sink>(
+    alloc: Global,
+    run: &Run<'_>,
+    options: &Options<'_>,
+    map: &LineMap,
+    writer: &mut W,
+) -> Result<Status, JudgeFault>
+    requires { W.is_marked writer.old ≡ false }
+    ensures read { is_read_end result ≡ false }
+    ensures write { W.is_marked writer.new ≡ is_write_end result }
+{
+    if !run.judge.log.is_empty() {
+        write_all(writer, run.judge.log.as_bytes())?;
+    }
+    let mut text = String::new(alloc);
+    let status = write_end(alloc, run, options, map, &mut text)?;
+    if !options.quiet {
+        write_all(writer, text.as_bytes())?;
+    }
+    Ok(status)
+}

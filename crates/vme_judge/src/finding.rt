@@ -1,0 +1,46 @@
+//! The sample at which a trace is illegal.
+use crate::transfer::OpenTransfer;
+use vme_answers::Wrong;
+use vme_protocol::{Datum, Local, Rule, Sample};
+
+/// What a board's memory was asked for.
+#[derive(Clone, Copy, Debug)]
+pub(crate) enum Asked {
+    Datum(Datum),
+    Access(Local),
+}
+
+/// What is wrong at a sample.
+#[derive(Clone, Copy, Debug)]
+pub(crate) enum Broken {
+    /// The sample may not follow the one before it.
+    Order(Rule),
+    /// A local port may not answer so.
+    Port(Rule, u8),
+    /// A board may not answer so; its slot, if it is one.
+    Answer(Wrong, Asked, Option<u8>),
+}
+
+/// The sample at which a trace is illegal.
+#[derive(Clone, Copy, Debug)]
+pub(crate) struct Finding {
+    /// The number of the line of the trace.
+    pub(crate) line: u64,
+    pub(crate) time: Option<u64>,
+    pub(crate) broken: Broken,
+    /// The samples before and at it; of a log none.
+    pub(crate) samples: Option<(Sample, Sample)>,
+    pub(crate) transfer: Option<OpenTransfer>,
+    /// A control line that is undefined.
+    pub(crate) undefined: Option<&'static str>,
+}
+
+impl Finding {
+    /// Returns the rule that is broken.
+    pub(crate) fn rule(&self) -> Rule {
+        match self.broken {
+            Broken::Order(rule) | Broken::Port(rule, _) => rule,
+            Broken::Answer(wrong, _, _) => wrong.rule,
+        }
+    }
+}

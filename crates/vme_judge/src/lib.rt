@@ -1,0 +1,27 @@
+//! The engine of `bendrika judge`: whether a recorded trace of a bus is legal, or the first sample at
+//! which it is not, with the rule that it breaks.
+#![tactic(auto)]
+
+mod boards;
+mod counts;
+mod dump;
+mod engine;
+mod expected;
+mod fault;
+mod finding;
+mod json;
+mod judge;
+mod log;
+mod message;
+mod options;
+mod rejection;
+mod run;
+mod shown;
+mod tail;
+mod transfer;
+mod verdict;
+
+pub use boards::{Board, boards_of};
+pub use engine::judge_engine;
+pub use fault::{JudgeFault, Status};
+pub use options::{OpenBytes, Options};

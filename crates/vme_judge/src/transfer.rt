@@ -1,0 +1,37 @@
+//! The transfer in which a sample lies.
+use vme_protocol::Sample;
+
+/// A transfer whose AS* is low.
+#[derive(Clone, Copy, Debug, PartialEq, Eq)]
+pub(crate) struct OpenTransfer {
+    pub(crate) am: u8,
+    /// A31 to A01 as AS* fell.
+    pub(crate) address: u32,
+    /// The slot that drove BBSY*, if one did.
+    pub(crate) slot: Option<u8>,
+    /// The data so far.
+    pub(crate) data: u64,
+    /// The time at which AS* fell, if the trace shows it.
+    pub(crate) since: Option<u64>,
+}
+
+/// Returns the slot that drives BBSY*, if exactly one does.
+pub(crate) fn driver_of(drivers: u32) -> Option<u8> {
+    if drivers == 0 || drivers & drivers.wrapping_sub(1) != 0 {
+        return None;
+    }
+    u8::try_from(drivers.trailing_zeros() + 1).ok()
+}
+
+impl OpenTransfer {
+    /// Returns the transfer that a sample opens.
+    pub(crate) fn opened(sample: &Sample) -> OpenTransfer {
+        OpenTransfer {
+            am: sample.am,
+            address: (sample.lines >> 32) as u32 & !1,
+            slot: driver_of(sample.drivers),
+            data: 0,
+            since: Some(sample.time),
+        }
+    }
+}

@@ -1,0 +1,164 @@
+//! The text of a verdict.
+use crate::dump::slots_of;
+use crate::fault::Status;
+use crate::finding::Finding;
+use crate::json::{write_finding, write_verdict};
+use crate::message::write_message;
+use crate::options::Options;
+use crate::rejection::{Rejection, Why};
+use crate::run::{Kind, Run};
+use crate::tail::{absent, assumed, write_counts, write_list, write_log_counts};
+use std::alloc::{AllocError, Global};
+use std::fmt::Write;
+use vme_line_map::LineMap;
+
+/// Appends the text of the end of a trace, and returns the status. Beside a bus log it is a comment.
+///
+/// # Errors
+///
+/// An allocation failed.
+pub(crate) fn write_end(
+    alloc: Global,
+    run: &Run<'_>,
+    options: &Options<'_>,
+    map: &LineMap,
+    to: &mut String,
+) -> Result<Status, AllocError> {
+    let mut text = String::new(alloc);
+    let status = write_text(alloc, run, options, map, &mut text)?;
+    if !options.log {
+        to.push_str(text.as_str())?;
+        return Ok(status);
+    }
+    for line in text.as_str().lines() {
+        write!(to, "# {line}\n")?;
+    }
+    Ok(status)
+}
+
+/// Whether nothing of a trace was judged.
+fn is_empty(run: &Run<'_>) -> bool {
+    let counts = &run.judge.counts;
+    counts.data == 0 && counts.accesses == 0
+}
+
+/// Appends the text.
+fn write_text(
+    alloc: Global,
+    run: &Run<'_>,
+    options: &Options<'_>,
+    map: &LineMap,
+    to: &mut String,
+) -> Result<Status, AllocError> {
+    let nothing = Rejection {
+        why: Why::Nothing,
+        line: None,
+    };
+    let rejection = match (&run.rejection, &run.judge.finding) {
+        (Some(rejection), _) => Some(*rejection),
+        (None, None) if is_empty(run) => Some(nothing),
+        _ => None,
+    };
+    if let Some(rejection) = rejection {
+        rejection.write(alloc, options.name, map, options.json, to)?;
+        return Ok(Status::Rejected);
+    }
+    let status = match &run.judge.finding {
+        Some(finding) => {
+            write_one(alloc, options, finding, to)?;
+            Status::Illegal
+        }
+        None => Status::Legal,
+    };
+    write_rest(alloc, run, options, status, to)?;
+    Ok(status)
+}
+
+/// Appends a finding.
+fn write_one(
+    alloc: Global,
+    options: &Options<'_>,
+    finding: &Finding,
+    to: &mut String,
+) -> Result<(), AllocError> {
+    if options.json {
+        write_finding(alloc, options.name, finding, to)
+    } else {
+        write_message(alloc, options.name, finding, to)
+    }
+}
+
+/// Appends what was seen of a legal trace, what it lacks and what is assumed.
+fn write_rest(
+    alloc: Global,
+    run: &Run<'_>,
+    options: &Options<'_>,
+    status: Status,
+    to: &mut String,
+) -> Result<(), AllocError> {
+    let slots = slots_of(run.judge.boards);
+    let is_dump = run.kind == Kind::Dump;
+    let presence = run.vcd.presence();
+    let absent = if is_dump {
+        absent(alloc, &presence, slots)?
+    } else {
+        Vec::new(alloc)
+    };
+    let ports = if is_dump { presence.ports } else { u32::MAX };
+    let assumed = assumed(alloc, options, run.judge.boards, ports)?;
+    let mut texts = Vec::new(alloc);
+    for text in assumed.iter() {
+        texts.push(text.as_str())?;
+    }
+    let ends_within = run.judge.transfer.is_some() && is_dump;
+    if options.json {
+        let verdict = if status == Status::Legal {
+            "legal"
+        } else {
+            "illegal"
+        };
+        return write_verdict(
+            verdict,
+            &run.judge.counts,
+            ends_within,
+            absent.as_slice(),
+            texts.as_slice(),
+            to,
+        );
+    }
+    if status == Status::Legal {
+        write_legal(run, is_dump, ends_within, to)?;
+    }
+    write_list(alloc, "not in the trace: ", absent.as_slice(), ", ", to)?;
+    write_list(alloc, "assumed: ", texts.as_slice(), "; ", to)
+}
+
+/// Appends what was seen of a legal trace.
+fn write_legal(
+    run: &Run<'_>,
+    is_dump: bool,
+    ends_within: bool,
+    to: &mut String,
+) -> Result<(), AllocError> {
+    let counts = &run.judge.counts;
+    to.push_str("legal: ")?;
+    if is_dump {
+        write_counts(counts, to)?;
+    } else {
+        write_log_counts(counts, to)?;
+    }
+    if ends_within {
+        to.push_str("; it ends within a transfer")?;
+    }
+    to.push('\n')?;
+    if counts.skipped == 0 {
+        return Ok(());
+    }
+    let skipped = counts.skipped;
+    let what = if is_dump {
+        "samples before the first at rest"
+    } else {
+        "data of a transfer that began before"
+    };
+    write!(to, "skipped: {skipped} {what}\n")
+}

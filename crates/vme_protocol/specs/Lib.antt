@@ -1,0 +1,12 @@
+pub mod Samples
+pub mod Scopes
+pub mod Lines
+pub mod Transfers
+pub mod Places
+pub mod Handshakes
+pub mod Arbitration
+pub mod Order
+pub mod Exchange
+pub mod Watching
+pub mod Verdicts
+pub mod Ports

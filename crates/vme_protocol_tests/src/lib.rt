@@ -1,0 +1,13 @@
+//! Tests of the protocol of traces, through its public functions: a course of samples that breaks no
+//! rule, and the same with one line edited in some of them, which breaks one rule. They are a crate of
+//! their own, so that no crate with tests is proved twice.
+#![tactic(auto)]
+
+#[cfg(test)]
+mod course;
+#[cfg(test)]
+mod edits;
+#[cfg(test)]
+mod known;
+#[cfg(test)]
+mod transfers;

@@ -1,0 +1,350 @@
+//! The lines of the bus, as the changes before have left them.
+use crate::bits::Bits;
+use crate::variable::Mapped;
+use vme_line_map::Group;
+use vme_protocol::{Port, Sample};
+
+/// The number of slots.
+const SLOTS: usize = 21;
+
+/// The lines of a local port.
+#[derive(Clone, Copy, Debug)]
+struct PortLines {
+    port: Port,
+    /// The lines of its data that are not driven or undefined.
+    idle: u32,
+    /// The lines of its offset that are.
+    undefined_offset: u32,
+    /// Whether its direction is.
+    undefined_write: bool,
+}
+
+/// The lines of the bus.
+#[derive(Debug, Drop)]
+pub struct BusLines {
+    sample: Sample,
+    /// The control lines that are undefined.
+    undefined: u32,
+    /// The lines of AM that are not driven or undefined.
+    idle_modifier: u32,
+    /// The slots with an undefined BBSY*, BRn* or BGnIN*.
+    undefined_drivers: u32,
+    undefined_requests: [u32; 4],
+    undefined_grants: [u32; 4],
+    /// The slots with BRn* or BGnIN* low, for each level.
+    requests: [u32; 4],
+    grants: [u32; 4],
+    ports: [PortLines; SLOTS],
+    /// The slots whose ports have changed.
+    changed_ports: u32,
+    /// Whether the dump has BBSY* of the bus.
+    has_busy: bool,
+}
+
+/// The control lines that can be undefined, as bits of `undefined`.
+const ADDRESS_STROBE: u32 = 1;
+
+const UPPER_STROBE: u32 = 2;
+
+const LOWER_STROBE: u32 = 4;
+
+const ACKNOWLEDGE: u32 = 8;
+
+const BUS_ERROR: u32 = 16;
+
+const INTERRUPT_ACKNOWLEDGE: u32 = 32;
+
+const BUSY: u32 = 64;
+
+/// LWORD* among the lines of a sample, and the place of A00, which is not one of them.
+const LONG_WORD: u64 = 1 << 32;
+
+/// The lines of a group that a change gives new levels, in the place of the group's lines.
+#[derive(Clone, Copy)]
+struct Change {
+    mask: u32,
+    ones: u32,
+    free: u32,
+    undefined: u32,
+}
+
+impl Change {
+    /// The levels that the bits of a variable give to lines.
+    fn of(mapped: &Mapped, bits: &Bits) -> Change {
+        let mask = mapped.mask;
+        let free = placed(mapped, bits.free);
+        let undefined = placed(mapped, bits.undefined);
+        let ones = placed(mapped, bits.ones);
+        let ones = if mapped.is_inverted { !ones } else { ones };
+        Change {
+            mask,
+            ones: ones & mask & !free & !undefined,
+            free: free & mask,
+            undefined: undefined & mask,
+        }
+    }
+
+    /// Whether the line of a group of one is high. It is high if nothing drives it.
+    fn is_high(self) -> bool {
+        self.ones | self.free != 0
+    }
+
+    /// Whether it is undefined.
+    fn is_undefined(self) -> bool {
+        self.undefined != 0
+    }
+
+    /// The new value of the lines of a group.
+    fn in_place(self, old: u32) -> u32 {
+        old & !self.mask | self.ones
+    }
+
+    /// The lines that are not driven or undefined, after the change.
+    fn idle_in(self, old: u32) -> u32 {
+        old & !self.mask | self.free | self.undefined
+    }
+}
+
+/// Bits of a variable at the places of their lines.
+fn placed(mapped: &Mapped, bits: u64) -> u32 {
+    let bits = bits
+        .wrapping_shr(u32::from(mapped.right))
+        .wrapping_shl(u32::from(mapped.first));
+    (bits & 0xffff_ffff) as u32
+}
+
+/// A set of slots with one of them in it or not.
+fn with_slot(slots: u32, slot: u8, is_in: bool) -> u32 {
+    let bit = 1u32.wrapping_shl(u32::from(slot.wrapping_sub(1)));
+    if is_in { slots | bit } else { slots & !bit }
+}
+
+/// The four sets of slots of four levels after a change of a slot's lines.
+fn leveled(sets: &mut [u32; 4], change: Change, lines: u32, slot: u8) {
+    for (level, set) in sets.iter_mut().enumerate() {
+        let bit = 1u32.wrapping_shl(level as u32);
+        if change.mask & bit != 0 {
+            *set = with_slot(*set, slot, lines & bit != 0);
+        }
+    }
+}
+
+/// The slots in any of four sets.
+fn any_of(sets: &[u32; 4]) -> u32 {
+    sets[0] | sets[1] | sets[2] | sets[3]
+}
+
+impl BusLines {
+    /// Returns lines at rest, with everything else undefined.
+    pub(crate) fn new() -> BusLines {
+        let port = Port {
+            done: false,
+            write: false,
+            undefined: true,
+            offset: 0,
+            lanes: 0,
+            data: 0,
+        };
+        BusLines {
+            sample: Sample::rest(),
+            undefined: 0,
+            idle_modifier: 63,
+            undefined_drivers: 0,
+            undefined_requests: [0; 4],
+            undefined_grants: [0; 4],
+            requests: [0; 4],
+            grants: [0; 4],
+            ports: [PortLines {
+                port,
+                idle: u32::MAX,
+                undefined_offset: 0,
+                undefined_write: false,
+            }; SLOTS],
+            changed_ports: 0,
+            has_busy: false,
+        }
+    }
+
+    /// Notes whether the dump has BBSY* of the bus; else no slot drives it where it is high.
+    pub(crate) fn set_has_busy(&mut self, has_busy: bool) {
+        self.has_busy = has_busy;
+    }
+
+    /// Returns the sample of these lines at a time.
+    pub fn sample(&self, time: u64) -> Sample {
+        let slots = self.undefined_drivers
+            | any_of(&self.undefined_requests)
+            | any_of(&self.undefined_grants);
+        Sample {
+            time,
+            undefined: self.undefined | slots != 0,
+            busy: if self.has_busy {
+                self.sample.busy
+            } else {
+                self.sample.drivers == 0
+            },
+            requests: any_of(&self.requests),
+            grants: any_of(&self.grants),
+            ..self.sample
+        }
+    }
+
+    /// Returns the lines of a slot's local port, if there is such a slot.
+    pub fn port(&self, slot: u8) -> Option<Port> {
+        let lines = self.ports.get(usize::from(slot).wrapping_sub(1))?;
+        Some(lines.port)
+    }
+
+    /// Returns the name of a control line of the bus that is undefined, if there is one.
+    pub fn undefined_line(&self) -> Option<&'static str> {
+        let names = ["AS*", "DS1*", "DS0*", "DTACK*", "BERR*", "IACK*", "BBSY*"];
+        for (place, name) in names.iter().enumerate() {
+            if self.undefined & 1u32.wrapping_shl(place as u32) != 0 {
+                return Some(*name);
+            }
+        }
+        if self.undefined_drivers != 0 {
+            return Some("BBSY* of a slot");
+        }
+        if any_of(&self.undefined_requests) != 0 {
+            return Some("BRn* of a slot");
+        }
+        if any_of(&self.undefined_grants) != 0 {
+            return Some("BGnIN* of a slot");
+        }
+        None
+    }
+
+    /// Returns the slots whose ports have changed since the last call.
+    pub fn take_changed_ports(&mut self) -> u32 {
+        let changed = self.changed_ports;
+        self.changed_ports = 0;
+        changed
+    }
+
+    /// Takes a change of a variable.
+    pub(crate) fn change(&mut self, mapped: &Mapped, bits: &Bits) {
+        let change = Change::of(mapped, bits);
+        match mapped.group {
+            Group::AddressStrobe => {
+                self.sample.address_strobe = self.control(ADDRESS_STROBE, change);
+            }
+            Group::UpperStrobe => self.sample.ds1 = self.control(UPPER_STROBE, change),
+            Group::LowerStrobe => self.sample.ds0 = self.control(LOWER_STROBE, change),
+            Group::Acknowledge => self.sample.dtack = self.control(ACKNOWLEDGE, change),
+            Group::BusError => self.sample.berr = self.control(BUS_ERROR, change),
+            Group::InterruptAcknowledge => {
+                self.sample.iack = self.control(INTERRUPT_ACKNOWLEDGE, change);
+            }
+            Group::Busy => self.sample.busy = self.control(BUSY, change),
+            Group::Write => {
+                self.sample.write_undefined = change.is_undefined() || change.free != 0;
+                self.sample.write = change.is_high() || change.is_undefined();
+            }
+            Group::Modifier => {
+                self.modifier(change);
+            }
+            Group::LongWord => self.lines(change, LONG_WORD, 32),
+            Group::Address => self.lines(change, !LONG_WORD, 32),
+            Group::Data => self.lines(change, u64::MAX, 0),
+            _ => self.slot_change(mapped.group, change),
+        }
+    }
+
+    /// The level of a control line after a change.
+    fn control(&mut self, line: u32, change: Change) -> bool {
+        if change.is_undefined() {
+            self.undefined |= line;
+        } else {
+            self.undefined &= !line;
+        }
+        change.is_high() || change.is_undefined()
+    }
+
+    /// AM5 to AM0 after a change.
+    fn modifier(&mut self, change: Change) {
+        self.idle_modifier = change.idle_in(self.idle_modifier);
+        let code = change.in_place(u32::from(self.sample.am));
+        self.sample.am = (code & 63) as u8;
+        self.sample.am_undefined = self.idle_modifier != 0;
+    }
+
+    /// The address, LWORD* or the data lines after a change, of which those of `own` are meant.
+    fn lines(&mut self, change: Change, own: u64, place: u32) {
+        let mask = u64::from(change.mask).wrapping_shl(place) & own;
+        let ones = u64::from(change.ones).wrapping_shl(place) & own;
+        let idle = u64::from(change.free | change.undefined).wrapping_shl(place) & own;
+        self.sample.lines = self.sample.lines & !mask | ones;
+        self.sample.lines_undefined = self.sample.lines_undefined & !mask | idle;
+    }
+
+    /// The lines of a slot after a change.
+    fn slot_change(&mut self, group: Group, change: Change) {
+        let low = change.mask & !change.ones & !change.free & !change.undefined;
+        match group {
+            Group::SlotBusy(slot) => {
+                self.undefined_drivers = with_slot(
+                    self.undefined_drivers,
+                    slot,
+                    change.is_undefined(),
+                );
+                self.sample.drivers = with_slot(self.sample.drivers, slot, low != 0);
+            }
+            Group::SlotRequest(slot) => {
+                leveled(&mut self.requests, change, low, slot);
+                leveled(&mut self.undefined_requests, change, change.undefined, slot);
+            }
+            Group::SlotGrant(slot) => {
+                leveled(&mut self.grants, change, low, slot);
+                leveled(&mut self.undefined_grants, change, change.undefined, slot);
+            }
+            Group::PortWrite(slot)
+            | Group::PortOffset(slot)
+            | Group::PortData(slot)
+            | Group::PortDone(slot) => {
+                self.changed_ports = with_slot(self.changed_ports, slot, true);
+                if let Some(lines) = self.ports.get_mut(usize::from(slot).wrapping_sub(1)) {
+                    lines.change(group, change);
+                }
+            }
+            _ => {}
+        }
+    }
+}
+
+impl PortLines {
+    /// The lines of a local port after a change. Its lines are low where nothing drives them.
+    fn change(&mut self, group: Group, change: Change) {
+        let is_idle = change.free | change.undefined != 0;
+        match group {
+            Group::PortWrite(_) => {
+                self.port.write = change.ones != 0;
+                self.undefined_write = is_idle;
+            }
+            Group::PortOffset(_) => {
+                self.port.offset = change.in_place(self.port.offset);
+                self.undefined_offset = change.idle_in(self.undefined_offset);
+            }
+            Group::PortData(_) => {
+                self.port.data = change.in_place(self.port.data);
+                self.idle = change.idle_in(self.idle);
+                self.port.lanes = defined_lanes(self.idle);
+            }
+            Group::PortDone(_) => self.port.done = change.ones != 0,
+            _ => {}
+        }
+        self.port.undefined = self.undefined_write || self.undefined_offset != 0;
+    }
+}
+
+/// The lanes of which each line is driven, from D07 to D00 up.
+fn defined_lanes(idle: u32) -> u8 {
+    let [third, second, first, zeroth] = idle.to_be_bytes();
+    let mut lanes = 0u8;
+    for (lane, byte) in [zeroth, first, second, third].iter().enumerate() {
+        if *byte == 0 {
+            lanes |= 1u8.wrapping_shl(lane as u32);
+        }
+    }
+    lanes
+}

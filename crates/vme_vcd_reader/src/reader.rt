@@ -1,0 +1,248 @@
+//! A dump as the levels of lines at its times.
+use crate::bits::Bits;
+use crate::body::{Body, Said};
+use crate::bus::BusLines;
+use crate::fault::VcdFault;
+use crate::header::{Header, Progress};
+use crate::presence::Presence;
+use crate::quick::{quick_change, quick_time};
+use crate::table::Table;
+use std::alloc::Global;
+use vme_line_map::LineMap;
+
+/// What a byte completes.
+#[derive(Clone, Copy, Debug, PartialEq, Eq)]
+pub enum Step {
+    /// Nothing.
+    More,
+    /// The header: `presence` says which lines the dump has.
+    Header,
+    /// The lines at a time, which `time` and `sample_line` name.
+    Sample,
+}
+
+/// A reader of a dump. It takes the bytes of the text one after another.
+#[derive(Drop)]
+pub struct VcdReader<'a> {
+    map: &'a LineMap,
+    header: Header,
+    table: Table,
+    body: Body,
+    bus: BusLines,
+    presence: Presence,
+    is_body: bool,
+    /// The number of the line that has the next byte.
+    line: u64,
+    /// The time whose changes are read, and the line that has it.
+    time: u64,
+    time_line: u64,
+    is_begun: bool,
+    /// The time of the sample that was completed, and its line.
+    sample_time: u64,
+    sample_line: u64,
+    /// Whether a mapped variable changed since the sample before, and before that sample.
+    is_changed: bool,
+    sample_is_changed: bool,
+}
+
+impl<'a> VcdReader<'a> {
+    /// Returns a reader before the first byte of a dump.
+    ///
+    /// # Errors
+    ///
+    /// An allocation failed.
+    pub fn new(alloc: Global, map: &'a LineMap) -> Result<VcdReader<'a>, VcdFault> {
+        let mut header = Header::new(alloc);
+        header.begin(map)?;
+        Ok(VcdReader {
+            map,
+            header,
+            table: Table::new(alloc),
+            body: Body::new(),
+            bus: BusLines::new(),
+            presence: Presence::NONE,
+            is_body: false,
+            line: 1,
+            time: 0,
+            time_line: 1,
+            is_begun: false,
+            sample_time: 0,
+            sample_line: 1,
+            is_changed: true,
+            sample_is_changed: true,
+        })
+    }
+
+    /// Returns the number of the line that has the next byte, from 1.
+    pub fn line(&self) -> u64 {
+        self.line
+    }
+
+    /// Returns which lines the dump has, once its header was read.
+    pub fn presence(&self) -> Presence {
+        self.presence
+    }
+
+    /// Returns the time of the sample that was completed.
+    pub fn time(&self) -> u64 {
+        self.sample_time
+    }
+
+    /// Returns the number of the line that has this time.
+    pub fn sample_line(&self) -> u64 {
+        self.sample_line
+    }
+
+    /// Returns whether a mapped variable has a change at this time.
+    pub fn is_changed(&self) -> bool {
+        self.sample_is_changed
+    }
+
+    /// Returns the lines of the bus.
+    pub fn bus(&mut self) -> &mut BusLines {
+        &mut self.bus
+    }
+
+    /// Takes a byte.
+    ///
+    /// # Errors
+    ///
+    /// Why the text is no dump; `line` is then the number of its line.
+    #[inline]
+    pub fn push(&mut self, byte: u8) -> Result<Step, VcdFault> {
+        let step = if self.is_body {
+            self.push_body(byte)?
+        } else {
+            self.push_header(byte)?
+        };
+        if byte == b'\n' {
+            self.line = self.line.wrapping_add(1);
+        }
+        Ok(step)
+    }
+
+    /// Takes the time, or the change of 0 and 1, that stands whole on a line at the start of a text,
+    /// if there is one, and returns what it completes and the text after it. `push` of each byte of
+    /// the line does the same.
+    ///
+    /// # Errors
+    ///
+    /// The time falls.
+    #[inline]
+    pub fn push_line<'b>(&mut self, text: &'b [u8]) -> Result<Option<(Step, &'b [u8])>, VcdFault> {
+        if !self.is_body || !self.body.is_between() {
+            return Ok(None);
+        }
+        if let Some(quick) = quick_change(text) {
+            for mapped in self.table.with(quick.identifier) {
+                self.bus.change(mapped, &quick.bits);
+                self.is_changed = true;
+            }
+            self.line = self.line.wrapping_add(1);
+            return Ok(Some((Step::More, quick.rest)));
+        }
+        let Some(quick) = quick_time(text) else {
+            return Ok(None);
+        };
+        let step = self.at_time(quick.time)?;
+        self.line = self.line.wrapping_add(1);
+        Ok(Some((step, quick.rest)))
+    }
+
+    /// Ends the text, and returns whether it completes a sample.
+    ///
+    /// # Errors
+    ///
+    /// Why the text is no dump.
+    pub fn end(&mut self) -> Result<Step, VcdFault> {
+        if !self.is_body && self.push_header(b' ')? == Step::More {
+            return Err(VcdFault::EndsInHeader);
+        }
+        if self.push_body(b' ')? == Step::Sample {
+            return Ok(Step::Sample);
+        }
+        if !self.body.may_end() {
+            return Err(VcdFault::EndsInChange);
+        }
+        Ok(self.last_sample())
+    }
+
+    /// Returns the last sample, if there is one that was not completed before.
+    pub fn last_sample(&mut self) -> Step {
+        if !self.is_begun {
+            return Step::More;
+        }
+        self.complete();
+        self.is_begun = false;
+        Step::Sample
+    }
+
+    /// Takes a byte of the header.
+    fn push_header(&mut self, byte: u8) -> Result<Step, VcdFault> {
+        match self.header.push(self.map, byte)? {
+            Progress::More => Ok(Step::More),
+            Progress::Ended => {
+                self.presence = self.header.end(self.map, &mut self.table)?;
+                self.bus.set_has_busy(self.presence.busy);
+                self.is_body = true;
+                Ok(Step::Header)
+            }
+        }
+    }
+
+    /// Takes a byte of the body.
+    #[inline]
+    fn push_body(&mut self, byte: u8) -> Result<Step, VcdFault> {
+        match self.body.push(byte)? {
+            Said::Nothing => Ok(Step::More),
+            Said::Change(identifier) => {
+                self.change(identifier);
+                Ok(Step::More)
+            }
+            Said::Time(time) => self.at_time(time),
+        }
+    }
+
+    /// Takes the change of a variable.
+    #[inline]
+    fn change(&mut self, identifier: u64) {
+        let mut bits: Option<Bits> = None;
+        for mapped in self.table.with(identifier) {
+            let value = match bits {
+                Some(value) => value,
+                None => self.body.bits(),
+            };
+            bits = Some(value);
+            self.bus.change(mapped, &value);
+            self.is_changed = true;
+        }
+    }
+
+    /// Takes a time. A time that repeats the one before it completes nothing.
+    fn at_time(&mut self, time: u64) -> Result<Step, VcdFault> {
+        if !self.is_begun {
+            self.is_begun = true;
+            self.time = time;
+            self.time_line = self.line;
+            return Ok(Step::More);
+        }
+        if time < self.time {
+            return Err(VcdFault::TimeFalls);
+        }
+        if time == self.time {
+            return Ok(Step::More);
+        }
+        self.complete();
+        self.time = time;
+        self.time_line = self.line;
+        Ok(Step::Sample)
+    }
+
+    /// Completes the sample of the time before.
+    fn complete(&mut self) {
+        self.sample_time = self.time;
+        self.sample_line = self.time_line;
+        self.sample_is_changed = self.is_changed;
+        self.is_changed = false;
+    }
+}
