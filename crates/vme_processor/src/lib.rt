@@ -1,0 +1,10 @@
+//! A processor of a machine: the caller of its boards and of the arbiter of their bus.
+#![tactic(auto)]
+
+mod closing;
+mod opening;
+mod processor;
+
+pub use closing::{are_all_of_one, close};
+pub use opening::open;
+pub use processor::Processor;
