@@ -1,6 +1,7 @@
 //! A boxed processor that a caller outside of Rattle holds by its address.
 #![tactic(auto)]
 
+mod handle;
 mod loose;
 
-pub use loose::Loose;
+pub use handle::{Handle, Hidden};

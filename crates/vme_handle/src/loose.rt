@@ -5,10 +5,10 @@ use std::alloc::Allocator;
 use std::marker::Model;
 
 /// A box as its address and its allocator.
-pub struct Loose<T, A: Allocator> {
+pub(crate) struct Loose<T, A: Allocator> {
     pub(crate) at: *mut T,
     pub(crate) alloc: A,
-    pub ghost value: { T },
+    pub(crate) ghost value: { T },
 }
 
 impl<T, A: Allocator> Model for Loose<T, A> {
