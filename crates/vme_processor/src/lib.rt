@@ -4,7 +4,9 @@
 mod closing;
 mod opening;
 mod processor;
+mod transfer;
 
 pub use closing::{are_all_of_one, close};
-pub use opening::open;
+pub use opening::{OpenError, Place, open};
 pub use processor::Processor;
+pub use transfer::{StartFault, StepFault};

@@ -11,7 +11,9 @@ use std::sync::Arc;
 use std::sync::atomic::AtomicU64;
 use vme_bus_objects::{BusCommand, BusObject};
 use vme_core::EventReply;
+use vme_decode::AddressMap;
 use vme_machine::Member;
+use vme_master::Task;
 use vme_object::CommandRef;
 use vme_port::TryFault;
 
@@ -25,6 +27,14 @@ pub struct Processor {
     pub(crate) index: usize,
     /// A mark that all processors of the machine share, and no others.
     pub(crate) mark: Arc<AtomicU64, Global>,
+    /// The addresses at which the boards respond.
+    pub(crate) map: Arc<AddressMap, Global>,
+    /// The slot that requests the bus for it.
+    pub(crate) slot: u16,
+    /// The level of these requests.
+    pub(crate) level: u8,
+    /// Its last transfer over the bus, if it has started one.
+    pub(crate) task: Option<Task<'static>>,
     ghost objects: { objects_of (arc_value member.array) ≡ boards + 1 },
     ghost own: { index < boards },
 }
@@ -56,6 +66,7 @@ impl Processor {
         ensures array { arc_value self.new.member.array ≡ arc_value self.old.member.array }
         ensures boards { self.new.boards ≡ self.old.boards }
         ensures index { self.new.index ≡ self.old.index }
+        ensures task { self.new.task ≡ self.old.task }
         ensures adds { UnlessBusy result
             (Adds bus_object_step (opening (arc_value self.old.member.array))
             (entries_of self.old.member.pass.who index cmd.now result) self.old.member.pass
