@@ -1,0 +1,73 @@
+-- The machine values of a box as its address and its allocator.
+use Rattle.std.proofs.Common.{◌≡◌, ℕ, List, [], ◌∷◌, ◌++◌, refl, subst}
+use mathlib.Core.Bool.{true, ◌&&◌}
+use lib.Dec.{T}
+use seplogic.Ra.Ura.{Ura}
+use mir.Syntax.{impl, tnil, dnil}
+use mir.Raw.{raw as bare}
+use mir.Val.{Val, vptr, vstruct, vcons, vnil, of_list, has_ty, WT}
+use base.Logic.{never, fst∗}
+use types.Logic.{Logic, sem}
+use types.Kit.{Item, Goal, Seq, Step, step, ‵, ◌$◌, move, drop, fsplit, fjoin, fpick, fpack, feq_i, feq_l}
+use denote.RattleType.{RattleType, Valss}
+use denote.Builtin.{RawPtr}
+use denote.Memory.{lone}
+use denote.RawPtr.{Ptr, block_ptr, null_ptr, ptr_val, in_a_block}
+use denote.Steps.{nothing}
+use denote.Param.{layout}
+use denote.Param.Laws.{Laws}
+use denote.Struct.Struct.{within}
+use denote.Struct.Owning.{shape}
+use Rattle.std.specs.declared.alloc.Allocator.{Ghosts}
+use Rattle.std.proofs.alloc.Calls.{Al, handle_tells}
+use Rattle.std.proofs.cell.Inside.{Good}
+use Rattle.std.specs.Box.Ownership.{box_owns}
+use Rattle.std.proofs.ResultValues.{and_tt}
+use Rattle.vme_handle.specs.contracts.loose.Loose as loose
+
+-- a struct of two machine values
+abbrev pub both : Val → Val → Val
+both p h = vstruct (vcons p (vcons h vnil))
+
+module _ (R Z : RattleType) (L : Laws Z) (g : Ghosts Z.Denot) where
+  abbrev pub Loose : RattleType
+  Loose = loose.the_row R Z g
+
+  -- the allocator alone, without the table of its methods
+  abbrev bare_allocator : Al
+  bare_allocator = record { row = Z; laws = L; g = g; d = impl [] tnil dnil; drops = impl [] tnil dnil }
+
+  -- what owns the box at an address
+  abbrev owned : Z.Denot → R.Denot → Ptr → base.Fml.Fml
+  owned a x p = box_owns (g.dealloc_token a) R p x
+
+  pub loose_good : (b o : ℕ) (h : Val) → Good (layout Z) h → T (has_ty (layout Z) h && true) × WT (both (vptr b o) h)
+  loose_good b o h fits = (and_tt (has_ty (layout Z) h) fits.0, (tt, (fits.1, tt)))
+
+  module _ {M : Type 1} {𝓤 : Ura M} {𝓛 : Logic 𝓤} {K : Type 0} {Γ : List (Item 𝓤)} {G : Goal 𝓤 𝓛.H} where
+    -- its parts are the box in its block and the allocator's handle
+    pub loose_out : K → (d : Loose.Denot) (vs : List Val)
+        → ((b o : ℕ) (h : Val) → d.at ≡ block_ptr b o → vs ≡ both (vptr b o) h ∷ [] → Good (layout Z) h
+            → Seq K 𝓛 (‵ (owned d.alloc d.value (block_ptr b o)) ∷ ‵ (Z.own_val d.alloc (h ∷ [])) ∷ Γ) G)
+        → Seq K 𝓛 (‵ (Loose.own_val d vs) ∷ Γ) G
+    loose_out t d vs then =
+        let Whole = λ (ps hs : List Val). vs ≡ vstruct (of_list (ps ++ (hs ++ []))) ∷ [] in
+        let Null = sem 𝓛 (g.dealloc_token d.alloc (bare (lone R.mir)) null_ptr) in
+        fsplit t $ fpick t (λ fields. fsplit t $ feq_l t (λ whole. fsplit t $ feq_l t (λ pointer. fsplit t $
+        handle_tells bare_allocator t d.alloc fields.1.0 (λ h handle fits. move t (1 ∷ []) $ drop t $ move t (1 ∷ []) $
+        in_a_block t d.at (owned d.alloc d.value) (fst∗ 𝓤 (never 𝓤) Null) (λ b o at.
+        then b o h at
+            (subst (λ (p : Ptr). Whole (ptr_val p ∷ []) (h ∷ [])) at
+            (subst (Whole (ptr_val d.at ∷ [])) handle (subst (λ (ps : List Val). Whole ps fields.1.0) pointer whole)))
+            fits)))))
+
+    -- and it is made of them
+    pub loose_in : K → (b o : ℕ) (h : Val) (a : Z.Denot) (x : R.Denot)
+        → Step K 𝓛 (‵ (Loose.own_val (record { at = block_ptr b o; alloc = a; value = x }) (both (vptr b o) h ∷ [])) ∷ Γ) G
+            (‵ (owned a x (block_ptr b o)) ∷ ‵ (Z.own_val a (h ∷ [])) ∷ Γ) G
+    loose_in t b o h a x = step (λ rest.
+        let whole : List Val = both (vptr b o) h ∷ [] in let pointer : List Val = vptr b o ∷ [] in
+        nothing t $ move t (2 ∷ 0 ∷ []) $ fjoin t $ feq_i t (List Val) pointer pointer refl $ fjoin t $
+        feq_i t (List Val) whole whole refl $ fjoin t $
+        fpack t (Valss (RawPtr ∷ Z ∷ [])) (within (shape (loose.the_type R Z g)) (block_ptr b o, (a, tt)) whole) (pointer, (h ∷ [], tt)) $
+        fjoin t $ rest)

@@ -1,0 +1,15 @@
+//! `libvme_machine`: machines of boards on one backplane (ANSI/IEEE Std 1014-1987) for the threads of
+//! C programs and of the languages that call C. Each thread holds a processor, and each export does
+//! at most one event and never waits. `include/vme_machine.h` declares the exports.
+#![tactic(auto)]
+
+mod board;
+mod buffers;
+mod calls;
+mod closing;
+mod datum;
+mod handle;
+mod modify;
+mod opening;
+mod results;
+mod structs;

@@ -1,0 +1,12 @@
+//! A processor of a machine: the caller of its boards and of the arbiter of their bus.
+#![tactic(auto)]
+
+mod closing;
+mod opening;
+mod processor;
+mod transfer;
+
+pub use closing::{are_all_of_one, close};
+pub use opening::{OpenError, Place, open};
+pub use processor::Processor;
+pub use transfer::{StartFault, StepFault};

@@ -1,0 +1,80 @@
+ghost use Rattle.std.specs.Prelude.{◌≡◌, ◌+◌, ◌-◌, ◌^◌, ◌<◌, ◌≤◌, length};
+ghost use Rattle.std.specs.Arc.{arc_value};
+ghost use Rattle.vme_port.specs.Calls.{UnlessBusy, IfBusy, IfSpent};
+ghost use Rattle.vme_port_array.specs.Arrays.{opening, passes_of, objects_of};
+ghost use Rattle.vme_port_array.specs.Parts.{part};
+ghost use Rattle.vme_port_array.specs.Calls.{entries_of, Adds};
+ghost use Rattle.vme_bus_objects.specs.Objects.{bus_object_step};
+
+use std::alloc::Global;
+use std::sync::Arc;
+use std::sync::atomic::AtomicU64;
+use vme_bus_objects::{BusCommand, BusObject};
+use vme_core::EventReply;
+use vme_decode::AddressMap;
+use vme_machine::Member;
+use vme_master::Task;
+use vme_object::CommandRef;
+use vme_port::TryFault;
+
+/// A processor of a machine. It reaches each board by the board's index, and the arbiter by the
+/// index `boards`, after all boards.
+#[derive(Drop)]
+pub struct Processor {
+    pub(crate) member: Member<BusObject>,
+    pub(crate) boards: usize,
+    /// The index of its own board.
+    pub(crate) index: usize,
+    /// A mark that all processors of the machine share, and no others.
+    pub(crate) mark: Arc<AtomicU64, Global>,
+    /// The addresses at which the boards respond.
+    pub(crate) map: Arc<AddressMap, Global>,
+    /// The slot that requests the bus for it.
+    pub(crate) slot: u16,
+    /// The level of these requests.
+    pub(crate) level: u8,
+    /// Its last transfer over the bus, if it has started one.
+    pub(crate) task: Option<Task<'static>>,
+    ghost objects: { objects_of (arc_value member.array) ≡ boards + 1 },
+    ghost own: { index < boards },
+}
+
+impl Processor {
+    /// Returns the index of the processor's own board.
+    pub fn index(&self) -> usize
+        ensures value { result ≡ self.now.index }
+        ensures below { result < self.now.boards }
+    {
+        self.index
+    }
+
+    /// Returns the number of boards.
+    pub fn boards(&self) -> usize
+        ensures { result ≡ self.now.boards }
+    {
+        self.boards
+    }
+
+    /// Performs one command on the object at an index if no other processor holds it, and returns
+    /// the reply. It never waits.
+    ///
+    /// # Errors
+    /// `Busy` if another processor holds the object, and `Spent` if the object has made 2^64 - 1
+    /// steps. Neither adds an entry.
+    pub fn try_event(&mut self, index: usize, cmd: &BusCommand) -> Result<EventReply, TryFault>
+        requires { index ≤ self.old.boards }
+        ensures array { arc_value self.new.member.array ≡ arc_value self.old.member.array }
+        ensures boards { self.new.boards ≡ self.old.boards }
+        ensures index { self.new.index ≡ self.old.index }
+        ensures task { self.new.task ≡ self.old.task }
+        ensures adds { UnlessBusy result
+            (Adds bus_object_step (opening (arc_value self.old.member.array))
+            (entries_of self.old.member.pass.who index cmd.now result) self.old.member.pass
+            self.new.member.pass) }
+        ensures busy { IfBusy result (self.new.member.pass ≡ self.old.member.pass) }
+        ensures shared { IfBusy result (2 ≤ passes_of (arc_value self.old.member.array)) }
+        ensures full { IfSpent result (length (part index self.new.member.pass.seen) ≡ 2 ^ 64 - 1) }
+    {
+        self.member.try_operation(index, &CommandRef { cmd })
+    }
+}

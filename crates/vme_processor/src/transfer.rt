@@ -1,0 +1,210 @@
+//! The transfers of a processor over the bus, event by event.
+ghost use Rattle.std.specs.Prelude.{◌≡◌, ◌+◌, Err, option_map, IfOk, IfErr, IfSome, IfNone};
+ghost use Rattle.std.specs.Arc.{arc_value};
+ghost use Rattle.vme_core.specs.EventRefs.{call_asked};
+ghost use Rattle.vme_bus_objects.specs.declared.command.BusCommand.TheVariants as commands;
+ghost use Rattle.vme_master.specs.Events.{outcome_in};
+ghost use Rattle.vme_port_array.specs.Arrays.{objects_of};
+ghost use Rattle.vme_cycle.specs.Lawful.{transfer_of};
+ghost use Rattle.vme_processor.specs.Transfers.{AddsEntry, AddsCall, WasBusy, StepsTask, Steps, Starts, IfRefused, outcome_of};
+
+use crate::processor::Processor;
+use vme_arbiter::ArbCmd;
+use vme_bus_objects::{ArbiterOperation, BoardOperation, BusObject};
+use vme_core::{EventRef, EventReply};
+use vme_cycle::{CycleFault, INLINE_LEN, Plan, Request};
+use vme_machine::Member;
+use vme_master::{OutcomeRef, Task};
+use vme_memory::ByteMemory;
+use vme_object::{CommandRef, Operation};
+use vme_port::TryFault;
+
+/// The reasons why a transfer is not started.
+#[derive(Debug, Drop)]
+pub enum StartFault {
+    /// The processor's last transfer has not ended.
+    Running,
+    /// The request reads more bytes than fit in a transfer: 40.
+    TooLong,
+    /// The first refusal of the request.
+    Refused(CycleFault),
+}
+
+/// The reasons why a step performs no event.
+#[derive(Debug, Drop)]
+pub enum StepFault {
+    /// Another processor holds the object.
+    Busy,
+    /// The object has made 2^64 - 1 steps.
+    Spent,
+    /// The machine has no such board. No map of its boards selects one.
+    NoBoard,
+}
+
+/// Performs an operation on the board at an index.
+fn access<A: Operation<ByteMemory>>(
+    member: &mut Member<BusObject>,
+    boards: usize,
+    board: usize,
+    operation: &A,
+) -> Result<EventReply, StepFault>
+    requires { objects_of (arc_value member.old.array) ≡ boards + 1 }
+    ensures array { arc_value member.new.array ≡ arc_value member.old.array }
+    ensures event { IfOk result (λ reply.
+        AddsEntry board (commands.Board (A.command operation.now)) reply member.old member.new) }
+    ensures busy { result ≡ Err StepFault.Busy → WasBusy member.old member.new }
+{
+    if board >= boards {
+        return Err(StepFault::NoBoard);
+    }
+    match member.try_operation(board, &BoardOperation { operation }) {
+        Ok(reply) => Ok(reply),
+        Err(TryFault::Busy) => Err(StepFault::Busy),
+        Err(TryFault::Spent) => Err(StepFault::Spent),
+    }
+}
+
+/// Performs a command on the arbiter.
+fn command(
+    member: &mut Member<BusObject>,
+    boards: usize,
+    cmd: &ArbCmd,
+) -> Result<EventReply, StepFault>
+    requires { objects_of (arc_value member.old.array) ≡ boards + 1 }
+    ensures array { arc_value member.new.array ≡ arc_value member.old.array }
+    ensures event { IfOk result (λ reply.
+        AddsEntry boards (commands.Arbiter cmd.now) reply member.old member.new) }
+    ensures busy { result ≡ Err StepFault.Busy → WasBusy member.old member.new }
+{
+    match member.try_operation(boards, &ArbiterOperation { cmd }) {
+        Ok(reply) => Ok(reply),
+        Err(TryFault::Busy) => Err(StepFault::Busy),
+        Err(TryFault::Spent) => Err(StepFault::Spent),
+    }
+}
+
+/// Performs the event of a transfer.
+fn perform(
+    member: &mut Member<BusObject>,
+    boards: usize,
+    event: &EventRef<'_>,
+) -> Result<EventReply, StepFault>
+    requires { objects_of (arc_value member.old.array) ≡ boards + 1 }
+    ensures array { arc_value member.new.array ≡ arc_value member.old.array }
+    ensures event { IfOk result (λ reply. AddsCall (call_asked event.now) reply member.old member.new) }
+    ensures busy { result ≡ Err StepFault.Busy → WasBusy member.old member.new }
+{
+    match event {
+        EventRef::Bus(cmd) => command(member, boards, cmd),
+        EventRef::Board { board, cmd } => access(member, boards, *board, &CommandRef { cmd: *cmd }),
+        EventRef::Datum { board, cycle } => access(member, boards, *board, cycle),
+    }
+}
+
+/// Performs the next event of a transfer, if there is one, and gives it the reply.
+fn step_task(
+    member: &mut Member<BusObject>,
+    boards: usize,
+    task: &mut Task<'static>,
+) -> Result<Option<EventReply>, StepFault>
+    requires { objects_of (arc_value member.old.array) ≡ boards + 1 }
+    ensures array { arc_value member.new.array ≡ arc_value member.old.array }
+    ensures event { IfOk result (λ r. IfSome r (λ reply.
+        StepsTask reply member.old member.new task.old task.new)) }
+    ensures none { IfOk result (λ r. IfNone r ((member.new ≡ member.old) × (task.new ≡ task.old))) }
+    ensures busy { result ≡ Err StepFault.Busy → WasBusy member.old member.new }
+    ensures fault { IfErr result (λ _. task.new ≡ task.old) }
+{
+    let Some(event) = task.event_ref() else {
+        return Ok(None);
+    };
+    let reply = perform(member, boards, &event)?;
+    task.advance(Some(&reply));
+    Ok(Some(reply))
+}
+
+impl Processor {
+    /// Starts a transfer over the bus. The processor owns the request, which may read at most 40
+    /// bytes. Nothing happens on the bus yet.
+    ///
+    /// # Errors
+    /// `Running` if the last transfer has not ended, `Refused` with the first refusal of the
+    /// request, and `TooLong` if it reads more than 40 bytes. The processor is unchanged.
+    pub fn start(&mut self, request: Request) -> Result<(), StartFault>
+        ensures started { IfOk result (λ _. Starts request self.old self.new) }
+        ensures refused { IfErr result (IfRefused (transfer_of request)) }
+        ensures unchanged { IfErr result (λ _. self.new ≡ self.old) }
+    {
+        if self.is_running() {
+            return Err(StartFault::Running);
+        }
+        let read_len = match Plan::of(&request) {
+            Ok(plan) => plan.read_len(),
+            Err(fault) => return Err(StartFault::Refused(fault)),
+        };
+        if read_len > INLINE_LEN {
+            return Err(StartFault::TooLong);
+        }
+        let mut task = match Task::start_owned(&self.map, self.slot, self.level, request) {
+            Ok(task) => task,
+            Err(fault) => return Err(StartFault::Refused(fault)),
+        };
+        task.advance(None);
+        self.task = Some(task);
+        Ok(())
+    }
+
+    /// Returns whether the processor has a transfer that has not ended.
+    pub fn is_running(&self) -> bool {
+        match &self.task {
+            Some(task) => !task.is_finished(),
+            None => false,
+        }
+    }
+
+    /// Performs the next event of the transfer, if there is one, and returns its reply. It never
+    /// waits.
+    ///
+    /// # Errors
+    /// `Busy` if another processor holds the object: nothing has happened. `Spent` if the object has
+    /// made 2^64 - 1 steps, and `NoBoard` if the machine has no such board. The transfer is
+    /// unchanged.
+    pub fn step(&mut self) -> Result<Option<EventReply>, StepFault>
+        ensures event { IfOk result (λ r. IfSome r (λ reply. Steps reply self.old self.new)) }
+        ensures none { IfOk result (λ r. IfNone r
+            ((self.new.member ≡ self.old.member) × (self.new.task ≡ self.old.task))) }
+        ensures busy { result ≡ Err StepFault.Busy → WasBusy self.old.member self.new.member }
+        ensures fault { IfErr result (λ _. self.new.task ≡ self.old.task) }
+        ensures array { arc_value self.new.member.array ≡ arc_value self.old.member.array }
+        ensures boards { self.new.boards ≡ self.old.boards }
+        ensures index { self.new.index ≡ self.old.index }
+    {
+        let Some(mut task) = self.task.take() else {
+            return Ok(None);
+        };
+        let result = step_task(&mut self.member, self.boards, &mut task);
+        self.task = Some(task);
+        result
+    }
+
+    /// Returns the outcome of the last transfer by reference, if it has ended.
+    pub fn outcome(&self) -> Option<OutcomeRef<'_>>
+        ensures { option_map outcome_in result ≡ outcome_of self.now }
+    {
+        match &self.task {
+            Some(task) => task.outcome(),
+            None => None,
+        }
+    }
+
+    /// Returns whether the first byte of the last transfer selects a board.
+    pub fn selects_a_board(&self) -> bool {
+        match &self.task {
+            Some(task) => match task.current_datum() {
+                Some(datum) => datum.is_selected(),
+                None => false,
+            },
+            None => false,
+        }
+    }
+}
