@@ -31,7 +31,7 @@ struct machine {
     vme_arbiter arbiter;
 };
 
-enum phase { IDLE, ASK, LOOK, MOVE, DONE };
+enum phase { IDLE, ASK, LOOK, MOVE, DONE, ENDED };
 
 struct processor {
     struct machine *machine;
@@ -39,7 +39,7 @@ struct processor {
     uint16_t slot;
     uint8_t level;
     enum phase phase;
-    uint8_t result; /* at DONE, what the transfer ends with */
+    uint8_t result; /* from DONE on, what the transfer ends with */
     uint16_t datum;
     size_t have;
     vme_request request;
@@ -255,7 +255,7 @@ static uint8_t start(vme_processor *p, const vme_request *request, bool is_kind,
     vme_datum first = { 0, { 0 } };
     if (!own)
         return VME_CLOSED;
-    if (!is_kind || own->phase != IDLE)
+    if (!is_kind || (own->phase != IDLE && own->phase != ENDED))
         return VME_BAD_CALL;
     if (f)
         wanted.f = *f;
@@ -355,7 +355,7 @@ static uint8_t use_bus(struct processor *own)
     machine->bus.steps++;
     give(&machine->bus);
     if (own->phase == DONE) {
-        own->phase = IDLE;
+        own->phase = ENDED;
         return own->result;
     }
     own->phase = told == VME_GRANTED ? MOVE : LOOK;
@@ -369,6 +369,8 @@ uint8_t vme_processor_step(vme_processor *p)
         return VME_CLOSED;
     if (own->phase == IDLE)
         return VME_BAD_CALL;
+    if (own->phase == ENDED)
+        return own->result;
     return own->phase == MOVE ? move(own) : use_bus(own);
 }
 

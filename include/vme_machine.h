@@ -118,9 +118,10 @@ uint8_t vme_processor_start_write(vme_processor *p, const vme_request *request, 
 uint8_t vme_processor_start_modify(vme_processor *p, const vme_request *request, const vme_modify *f);
 
 /* Makes at most one event of the transfer. Returns VME_MORE, VME_NOT_GRANTED, VME_BUSY or VME_SPENT while
- * it goes on. It has ended, and the bus is released, with VME_OK; with VME_BERR if the board drove BERR*,
- * after which the data before it have been moved; and with VME_NO_BOARD if no board responds. Fails with
- * VME_BAD_CALL if no transfer goes on, and with VME_CLOSED. */
+ * it goes on; with its first VME_MORE the processor has the bus. It has ended, and the bus is released,
+ * with VME_OK; with VME_BERR if the board drove BERR*, after which the data before it have been moved; and
+ * with VME_NO_BOARD if no board responds. A step after the end returns the end again. Fails with
+ * VME_BAD_CALL if no transfer was started, and with VME_CLOSED. */
 uint8_t vme_processor_step(vme_processor *p);
 
 /* Writes the first size bytes that the transfer has read so far, or the last one after its end, and to

@@ -167,6 +167,7 @@ static void check_transfers(void)
     want("its step", vme_processor_step(&p[1]), VME_NOT_GRANTED);
     want("its second step", vme_processor_step(&p[1]), VME_NOT_GRANTED);
     want("finish", vme_finish(&p[0], &waiter), VME_OK);
+    want("step after the end", vme_processor_step(&p[0]), VME_OK);
     want("the other", vme_finish(&p[1], &waiter), VME_OK);
     want("its bytes", vme_processor_bytes(&p[1], datum.bytes, 8, &count), VME_OK);
     want("their number", (uint8_t)count, 4);

@@ -50,34 +50,29 @@ static void *work(void *index)
 
 int main(int argc, char **argv)
 {
-    uint64_t steps[THREADS + 1], sum = 0, moved = 0;
-    vme_processor all[THREADS];
+    uint64_t made = 0;
     calls = argc > 1 ? strtoul(argv[1], NULL, 10) : calls;
     open_crate(THREADS);
     run_each(THREADS, work);
-    for (size_t i = 0; i < THREADS; i++)
-        all[i] = cpus[i].p;
-    want("close", vme_machine_close(all, THREADS, steps, THREADS + 1, memory, sizeof memory), VME_OK);
     for (size_t b = 0; b < THREADS; b++) {
-        uint64_t total = 0, count = 0;
+        uint64_t total = 0;
+        vme_datum found = { 0, { 0 } };
+        want("read", vme_processor_local_read(&cpus[b].p, &waiter, 0, 4, &found), VME_OK);
+        steps_of[b][b]++;
         for (size_t i = 0; i < THREADS; i++) {
             total += added[i][b];
-            count += steps_of[i][b];
-            moved += i == b ? 0 : (calls + OVER_BUS - 1) / OVER_BUS / THREADS;
+            made += steps_of[i][b];
         }
-        const uint8_t *at = memory + b * BOARD_SIZE;
-        const uint32_t found = (uint32_t)at[0] << 24 | (uint32_t)at[1] << 16 | (uint32_t)at[2] << 8 | at[3];
-        if (found != (uint32_t)total || steps[b] != count) {
-            fprintf(stderr, "board %zu: %u in place of %u, %lu steps\n", b, found, (uint32_t)total, (unsigned long)steps[b]);
+        if (vme_word_of(&found) != (uint32_t)total) {
+            fprintf(stderr, "board %zu: %u in place of %u\n", b, vme_word_of(&found), (uint32_t)total);
             return 1;
         }
-        sum += steps[b];
     }
-    /* Each transfer asks for the bus and releases it; one that waits looks too. */
-    if (steps[THREADS] < 2 * moved) {
-        fprintf(stderr, "the arbiter has %lu steps for %lu transfers\n", (unsigned long)steps[THREADS], (unsigned long)moved);
+    const uint64_t steps = close_crate(THREADS);
+    if (steps != made) {
+        fprintf(stderr, "%lu steps in place of %lu\n", (unsigned long)steps, (unsigned long)made);
         return 1;
     }
-    printf("%lu calls in %d threads: each sum and each count is right\n", (unsigned long)sum, THREADS);
+    printf("%lu calls in %d threads: each sum is right, and so is the number of steps\n", (unsigned long)made, THREADS);
     return 0;
 }
