@@ -248,29 +248,26 @@ uint8_t vme_processor_try_local_modify(vme_processor *p, uint32_t at, uint8_t n,
 
 /* ---- Transfers ---- */
 
-static uint8_t start(vme_processor *p, const vme_request *request, bool is_kind, const vme_modify *f, const uint8_t *bytes, size_t size)
+/* Whether the last transfer goes on. */
+static bool is_running(const struct processor *own)
+{
+    return own->phase != IDLE && own->phase != ENDED;
+}
+
+static uint8_t start(vme_processor *p, const vme_request *wanted, const uint8_t *bytes, size_t size)
 {
     struct processor *own = of(p);
-    vme_request wanted = *request;
-    vme_datum first = { 0, { 0 } };
+    const vme_datum first = { wanted->n, { 0 } };
     if (!own)
         return VME_CLOSED;
-    if (!is_kind || (own->phase != IDLE && own->phase != ENDED))
+    if (is_running(own))
         return VME_BAD_CALL;
-    if (f)
-        wanted.f = *f;
-    if (wanted.kind == VME_WRITE) {
-        if (size > 8)
-            return VME_K8;
-        wanted.n = (uint8_t)size;
-    } else if (wanted.kind == VME_BLOCK_WRITE && size != (size_t)wanted.count * wanted.n) {
-        wanted.count = 0;
-    }
-    first.n = wanted.n;
-    uint8_t result = vme_request_check(&wanted, &first);
+    const uint8_t result = vme_request_check(wanted, &first);
     if (result != VME_OK)
         return result;
-    own->request = wanted;
+    if (wanted->kind == VME_BLOCK_READ && (size_t)wanted->count * wanted->n > VME_MOST_READ)
+        return VME_BAD_CALL;
+    own->request = *wanted;
     own->datum = 0;
     own->have = 0;
     if (size)
@@ -281,17 +278,31 @@ static uint8_t start(vme_processor *p, const vme_request *request, bool is_kind,
 
 uint8_t vme_processor_start_read(vme_processor *p, const vme_request *request)
 {
-    return start(p, request, request->kind == VME_READ || request->kind == VME_BLOCK_READ, NULL, NULL, 0);
+    vme_request wanted = *request;
+    wanted.kind = request->kind == VME_BLOCK_READ ? VME_BLOCK_READ : VME_READ;
+    return start(p, &wanted, NULL, 0);
 }
 
 uint8_t vme_processor_start_write(vme_processor *p, const vme_request *request, const uint8_t *bytes, size_t size)
 {
-    return start(p, request, request->kind == VME_WRITE || request->kind == VME_BLOCK_WRITE, NULL, bytes, size);
+    vme_request wanted = *request;
+    const bool is_block = request->kind == VME_BLOCK_WRITE;
+    if (!of(p))
+        return VME_CLOSED;
+    if (size > (is_block ? (size_t)MOST_BYTES : 8))
+        return VME_K8;
+    wanted.kind = is_block ? VME_BLOCK_WRITE : VME_WRITE;
+    wanted.n = is_block ? request->n : (uint8_t)size;
+    wanted.count = (uint16_t)(is_block && wanted.n && size % wanted.n == 0 ? size / wanted.n : 0);
+    return start(p, &wanted, bytes, size);
 }
 
 uint8_t vme_processor_start_modify(vme_processor *p, const vme_request *request, const vme_modify *f)
 {
-    return start(p, request, request->kind >= VME_MODIFY, f, NULL, 0);
+    vme_request wanted = *request;
+    wanted.kind = VME_MODIFY;
+    wanted.f = *f;
+    return start(p, &wanted, NULL, 0);
 }
 
 static bool is_block(const vme_request *request)
@@ -379,7 +390,9 @@ uint8_t vme_processor_bytes(vme_processor *p, uint8_t *out, size_t size, size_t 
     struct processor *own = of(p);
     if (!own)
         return VME_CLOSED;
-    *count = own->have < size ? own->have : size;
+    *count = own->phase == ENDED ? own->have : 0;
+    if (*count > size)
+        return VME_BAD_CALL;
     memcpy(out, own->bytes, *count);
     return VME_OK;
 }

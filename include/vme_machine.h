@@ -7,9 +7,9 @@
  *
  * Waiting.   No call waits. A call that meets another thread inside the same object returns VME_BUSY and
  *            has changed nothing. vme_wait.h has calls that wait.
- * Memory.    A machine lies in memory that rattle_alloc gives: libvme_machine has one over malloc. Open and
- *            close allocate, and close and drop free; no other call does either. A program that defines
- *            rattle_alloc, rattle_realloc and rattle_dealloc itself chooses the memory.
+ * Memory.    A machine lies in memory that rattle_alloc gives: libvme_machine has one over malloc. A program
+ *            that defines rattle_alloc, rattle_realloc and rattle_dealloc itself chooses the memory. Opening,
+ *            closing, dropping and starting allocate and free; no call that makes an event does.
  * Results.   VME_OK or the reason of a failure. A call that fails has written nothing but what its
  *            comment says.
  *
@@ -41,6 +41,7 @@ extern "C" {
 enum {
     VME_NO_MEMORY = 0x25,   /* An allocation failed. */
     VME_NOT_GRANTED = 0x31, /* Another slot has the bus: the transfer has not begun. */
+    VME_BUS_DENIED = 0x32,  /* The arbiter denied a command of the transfer. For no processor of a machine it does. */
     VME_MORE = 0x34,        /* One event has happened, and the transfer goes on. */
     VME_BUSY = 0x50,        /* Another call is inside the object. Nothing has happened: try again. */
     VME_CLOSED = 0x51,      /* The processor is empty: not opened, closed or dropped. */
@@ -66,8 +67,8 @@ typedef struct vme_board {
 
 /* Opens a machine of count boards of zeros, with an arbiter of a kind of vme.h, and writes the processor
  * of board i to out[i]. Fails with VME_C1 to VME_C4 if the entries are no lawful map; with VME_BAD_CALL if
- * there is no board, if out_count is less than count, if the slots do not ascend from 1 to 21, if a level is above
- * 3, or if a size is not a multiple of 4 from 4 to 1,048,576; and with VME_NO_MEMORY. */
+ * there is no board, if out_count is less than count, if the slots do not ascend from 1 to 21, if a level is
+ * above 3, or if a size is not a multiple of 4 from 4 to 1,048,576; and with VME_NO_MEMORY. */
 uint8_t vme_machine_open(const vme_board *boards, size_t count, uint8_t arbiter, vme_processor *out,
                          size_t out_count);
 
@@ -97,24 +98,27 @@ uint8_t vme_processor_try_local_write(vme_processor *p, uint32_t at, const vme_d
 uint8_t vme_processor_try_local_modify(vme_processor *p, uint32_t at, uint8_t n, const vme_modify *f,
                                        vme_datum *out);
 
+/* The most bytes that one transfer reads. */
+enum { VME_MOST_READ = 40 };
+
 /* ---- A transfer over the bus: start it, then step it until it ends ----
  *
  * A transfer is a tenure of the bus: the processor's requester asks the arbiter for it, then each datum
  * is one event of the board that responds, then the bus is released. Any processor may reach any board
  * of the machine, its own one too. */
 
-/* Starts a read of one datum or of a block: VME_READ or VME_BLOCK_READ. Fails with the request's first
- * refusal; with VME_BAD_CALL if it has another kind, or if a transfer of this processor has not ended;
- * and with VME_CLOSED. */
+/* Starts a read: of a block if the kind is VME_BLOCK_READ, and otherwise of one datum. Fails with the
+ * request's first refusal; with VME_BAD_CALL if a transfer of this processor has not ended, or if more than
+ * VME_MOST_READ bytes are read; and with VME_CLOSED. */
 uint8_t vme_processor_start_read(vme_processor *p, const vme_request *request);
 
-/* Starts a write of size bytes, which are copied: VME_WRITE with one datum, or VME_BLOCK_WRITE with
- * request->count data of request->n bytes. Fails as a read does, and with VME_K8 if the bytes are not as
- * many as the data need. */
+/* Starts a write of size bytes, which are copied: as a block of data of request->n bytes if the kind is
+ * VME_BLOCK_WRITE, and otherwise as one datum. Ignores request->count. Fails as a read does, and with
+ * VME_NO_MEMORY. */
 uint8_t vme_processor_start_write(vme_processor *p, const vme_request *request, const uint8_t *bytes,
                                   size_t size);
 
-/* Starts a read-modify-write by f: VME_MODIFY. Ignores request->f. Fails as a read does. */
+/* Starts a read-modify-write by f. Ignores the kind, count and f of the request. Fails as a read does. */
 uint8_t vme_processor_start_modify(vme_processor *p, const vme_request *request, const vme_modify *f);
 
 /* Makes at most one event of the transfer. Returns VME_MORE, VME_NOT_GRANTED, VME_BUSY or VME_SPENT while
@@ -124,8 +128,9 @@ uint8_t vme_processor_start_modify(vme_processor *p, const vme_request *request,
  * VME_BAD_CALL if no transfer was started, and with VME_CLOSED. */
 uint8_t vme_processor_step(vme_processor *p);
 
-/* Writes the first size bytes that the transfer has read so far, or the last one after its end, and to
- * count how many they are; after a read-modify-write they are the old ones. Fails with VME_CLOSED. */
+/* Writes the bytes that the last transfer read, once it has ended, and their number to count: after a
+ * read-modify-write the old ones, after a bus error those before it, and otherwise none. Fails with
+ * VME_BAD_CALL if they are more than size, and then writes only their number; and with VME_CLOSED. */
 uint8_t vme_processor_bytes(vme_processor *p, uint8_t *out, size_t size, size_t *count);
 
 #ifdef __cplusplus

@@ -167,7 +167,7 @@ public:
         return bytes_of(out);
     }
 
-    // Count data of n bytes each.
+    // Count data of n bytes each, VME_MOST_READ bytes at most.
     bytes block_read(std::uint8_t am, std::uint32_t addr, std::uint8_t n, std::uint16_t count)
     {
         bytes out(static_cast<std::size_t>(n) * count + 1);

@@ -380,8 +380,8 @@ static inline uint8_t vme_read_modify_write(vme_processor *p, const vme_waiter *
     return result == VME_OK ? vme_read_bytes(p, out) : result;
 }
 
-/* Reads a block of count data of n bytes each to out, which has count * n bytes, and writes to moved how many bytes were read:
- * all with VME_OK, and with VME_BERR those before the error. Returns what a read does. */
+/* Reads a block of count data of n bytes each, VME_MOST_READ bytes at most, to out, which has count * n bytes. Writes to moved how many
+ * bytes were read: all with VME_OK, and with VME_BERR those before the error. Returns what a read does, and VME_BAD_CALL for more bytes. */
 static inline uint8_t vme_block_read(vme_processor *p, const vme_waiter *waiter, uint8_t am, uint32_t addr, uint8_t n, uint16_t count,
                                      uint8_t *out, size_t *moved)
 {

@@ -153,9 +153,10 @@ static void check_transfers(void)
     want("bytes of a closed one", vme_processor_bytes(&empty, datum.bytes, 4, &count), VME_CLOSED);
     open_two(p);
     want("step of nothing", vme_processor_step(&p[0]), VME_BAD_CALL);
-    want("a write that is read", vme_processor_start_read(&p[0], &write), VME_BAD_CALL);
-    want("a read that is written", vme_processor_start_write(&p[0], &read, datum.bytes, 4), VME_BAD_CALL);
-    want("a read that is modified", vme_processor_start_modify(&p[0], &read, &set), VME_BAD_CALL);
+    want("bytes of nothing", vme_processor_bytes(&p[0], datum.bytes, 8, &count), VME_OK);
+    want("their number", (uint8_t)count, 0);
+    want("a write of nine bytes", vme_processor_start_write(&p[0], &write, (const uint8_t *)"123456789", 9), VME_K8);
+    want("a write of no byte", vme_processor_start_write(&p[0], &write, datum.bytes, 0), VME_K8);
     want("K3", vme_read(&p[0], &waiter, AM, address(1, 3), 2, &datum), VME_K3);
     want("K1", vme_read(&p[0], &waiter, 0x2f, address(1, 0), 4, &datum), VME_K1);
     want("K9", vme_read(&p[0], &waiter, 0x40, address(1, 0), 4, &datum), VME_K9);
@@ -172,8 +173,8 @@ static void check_transfers(void)
     want("its bytes", vme_processor_bytes(&p[1], datum.bytes, 8, &count), VME_OK);
     want("their number", (uint8_t)count, 4);
     want("their last one", datum.bytes[3], 4);
-    want("some of them", vme_processor_bytes(&p[1], datum.bytes, 2, &count), VME_OK);
-    want("their number", (uint8_t)count, 2);
+    want("with too few places", vme_processor_bytes(&p[1], datum.bytes, 3, &count), VME_BAD_CALL);
+    want("their number", (uint8_t)count, 4);
     want("close", close_all(p, 2), VME_OK);
 }
 
@@ -190,7 +191,9 @@ static void check_blocks(void)
         block[k] = (uint8_t)(k + 1);
     want("write", vme_block_write(&p[0], &waiter, BLOCK_AM, address(1, 0), 4, 16, block), VME_BERR);
     memset(block, 0, sizeof block);
-    want("read", vme_block_read(&p[0], &waiter, BLOCK_AM, address(1, 0), 4, 16, block, &moved), VME_BERR);
+    want("read of more bytes than one transfer reads", vme_block_read(&p[0], &waiter, BLOCK_AM, address(1, 0), 4, 11, block, &moved),
+         VME_BAD_CALL);
+    want("read", vme_block_read(&p[0], &waiter, BLOCK_AM, address(1, 0), 4, 10, block, &moved), VME_BERR);
     want("bytes that were read", (uint8_t)moved, 24);
     want("the last one", block[23], 24);
     want("K6", vme_block_read(&p[0], &waiter, BLOCK_AM, address(0, 252), 4, 2, block, &moved), VME_K6);

@@ -1,5 +1,6 @@
-/* Each allocation of open and of close is refused in turn, by an allocator of this program's own. A refused open gives VME_NO_MEMORY, no
-   processor, and all its memory back; a refused close leaves the machine as it was. No event allocates. */
+/* Each allocation of open, of the start of a block write and of close is refused in turn, by an allocator of this program's own. A
+   refused open gives VME_NO_MEMORY, no processor, and all its memory back; a refused start or close leaves the machine as it was. No
+   event allocates, and no start of another transfer. */
 #include <stdbool.h>
 #include "cases.h"
 
@@ -103,6 +104,26 @@ static long refuse_close(vme_processor *all)
     }
 }
 
+/* The same for the start of a block write. */
+static long refuse_start(vme_processor *p)
+{
+    const vme_request write = vme_request_of(VME_BLOCK_WRITE, BLOCK_AM, address(2, 256), 4, 64);
+    static uint8_t block[256];
+    for (long n = 0;; n++) {
+        left = n;
+        const uint8_t result = vme_processor_start_write(p, &write, block, sizeof block);
+        const bool is_met = left < 0;
+        left = -1;
+        if (!is_met) {
+            want("start", result, VME_OK);
+            want("finish", vme_finish(p, &waiter), VME_OK);
+            return n;
+        }
+        want("start without memory", result, VME_NO_MEMORY);
+        want("a step afterwards: the end of the transfer before", vme_processor_step(p), VME_OK);
+    }
+}
+
 int main(void)
 {
     vme_processor all[COUNT];
@@ -121,11 +142,12 @@ int main(void)
         fprintf(stderr, "%ld allocations in events\n", asked);
         return 1;
     }
+    const long started = refuse_start(&all[2]);
     const long closed = refuse_close(all);
     if (live || steps[0] < 334 || memory[BOARD_SIZE + 16] != 1) {
         fprintf(stderr, "after close %ld blocks are not freed, %lu steps\n", live, (unsigned long)steps[0]);
         return 1;
     }
-    printf("%ld allocations of open and %ld of close refused in turn\n", opened, closed);
+    printf("%ld allocations of open, %ld of a start and %ld of close refused in turn\n", opened, started, closed);
     return opened == 0;
 }

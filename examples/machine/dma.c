@@ -11,7 +11,7 @@
 enum { DOORBELL = 0, STATUS = 4, SOURCE = 8, DESTINATION = 12, LENGTH = 16 };
 enum { RING = 1, STOP = 2 };            /* of the doorbell */
 enum { DONE = 1, FAILED = 2 };          /* of the status */
-enum { UNIT = 256, BYTES = 1024, COMMANDS = 20 };
+enum { UNIT = 32 /* at most VME_MOST_READ, and a divisor of 256 */, BYTES = 1024, COMMANDS = 20 };
 
 static uint32_t own(vme_processor *p, uint32_t at, uint8_t n)
 {
@@ -26,7 +26,7 @@ static void set_own(vme_processor *p, uint32_t at, uint32_t word)
     want("local write", vme_processor_local_write(p, &waiter, at, &datum), VME_OK);
 }
 
-/* Moves one command's bytes, a block of at most 256 after another. */
+/* Moves one command's bytes, a block after another. */
 static uint32_t move_blocks(vme_processor *p, uint32_t source, uint32_t destination, uint32_t length)
 {
     uint8_t bytes[UNIT];

@@ -6,10 +6,10 @@ import time
 from crate import BLOCK_AM, address, crate, get, put, run_each
 from pyvme import NoBoard, Processor
 
-# The command block, from offset 0 of board 2.
+# The command block, from offset 0 of board 2. A block of UNIT bytes is not longer than one transfer reads, and crosses no multiple of 256.
 DOORBELL, STATUS, SOURCE, DESTINATION, LENGTH = 0, 4, 8, 12, 16
 RING, STOP, DONE, FAILED = 1, 2, 1, 2
-UNIT, BYTES, COMMANDS = 256, 1024, 20
+UNIT, BYTES, COMMANDS = 32, 1024, 20
 
 
 def own_word(own: Processor, at: int) -> int:

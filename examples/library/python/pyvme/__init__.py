@@ -22,7 +22,7 @@ from .decoder import AddressMap
 from .errors import BusError, NoBoard, Refused, VmeError
 from .library import VERSION, version
 from .machine import Machine, MachineBoard, MachineReport, Mailbox, Processor
-from .machine_library import MachineResult
+from .machine_library import MOST_READ, MachineResult
 from .request import Request, answered
 from .structures import (
     IDLE,
@@ -42,6 +42,7 @@ from .tables import am_row, driven, sensed
 
 __all__ = [
     "IDLE",
+    "MOST_READ",
     "VERSION",
     "AddressMap",
     "AmRow",

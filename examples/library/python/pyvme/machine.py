@@ -118,7 +118,7 @@ class Processor:
         return self._transfer(RequestStruct(addr, 0, am, RequestKind.MODIFY, n, Modify.of(function, operand, put)))
 
     def block_read(self, am: int, addr: int, n: int, count: int) -> bytes:
-        """Reads a block of count data of n bytes each."""
+        """Reads a block of count data of n bytes each, `MOST_READ` bytes at most."""
         return self._transfer(RequestStruct(addr, count, am, RequestKind.BLOCK_READ, n))
 
     def block_write(self, am: int, addr: int, n: int, data: bytes) -> None:

@@ -15,11 +15,16 @@ from .numbers import Number, Record, checked
 from .structures import BoardClass, Datum, Entry, Modify, RequestStruct
 
 
+MOST_READ = 40
+"""The most bytes that one transfer reads."""
+
+
 class MachineResult(IntEnum):
     """The result of a call of a machine, besides those of `Result`."""
 
     NO_MEMORY = 0x25
     NOT_GRANTED = 0x31
+    BUS_DENIED = 0x32
     MORE = 0x34
     BUSY = 0x50
     CLOSED = 0x51
