@@ -259,7 +259,7 @@ struct report {
 class machine {
 public:
     // Opens a machine with an arbiter of a kind, VME_PRIORITY or VME_ROTATING.
-    explicit machine(const std::vector<vme_board> &boards, std::uint8_t kind = VME_PRIORITY) : releases(new vme_releases())
+    explicit machine(const std::vector<vme_board> &boards, std::uint8_t kind = VME_PRIORITY) : releases(new vme_releases VME_RELEASES_INIT)
     {
         std::vector<vme_processor> opened(boards.size() + 1);
         error::check(boards.empty() ? static_cast<std::uint8_t>(VME_BAD_CALL)

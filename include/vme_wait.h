@@ -14,8 +14,8 @@
  * Nothing of this file is proved, and no proof depends on it: it decides when to call the machine, and the
  * machine's replies are what it returns.
  *
- * vme_releases. One for each machine, zeros at first. All threads that use the machine share it; for
- *               processes it lies in the mapping that they share.
+ * vme_releases. One for each machine, VME_RELEASES_INIT at first, which on Linux is zeros. All threads that
+ *               use the machine share it; for processes it lies in the mapping that they share.
  * vme_waiter.   How a thread waits. It is read only, so threads may share one. {0} is lawful: without releases
  *               a waiter sleeps its millisecond.
  * limit.        The number of sleeps in a row, of 1 ms each, in which nothing changed, after which a call gives
@@ -81,10 +81,17 @@ typedef struct vme_count {
     uint32_t value;
     uint32_t sleepers;
 #if !defined(__linux__)
-    pthread_mutex_t mutex; /* zeros are PTHREAD_MUTEX_INITIALIZER on the systems that are supported; else set it */
+    pthread_mutex_t mutex;
     pthread_cond_t changed;
 #endif
 } vme_count;
+
+#if defined(__linux__)
+#define VME_COUNT_INIT { 0, 0 }
+#else
+#define VME_COUNT_INIT { 0, 0, PTHREAD_MUTEX_INITIALIZER, PTHREAD_COND_INITIALIZER }
+#endif
+#define VME_RELEASES_INIT { VME_COUNT_INIT, VME_COUNT_INIT, VME_COUNT_INIT }
 
 /* What a machine's threads wait on. */
 typedef struct vme_releases {
@@ -159,8 +166,7 @@ static inline int vme_count_sleep(vme_count *count, uint32_t value)
 /* Sleeps for 1 ms. */
 static inline int vme_sleep(void)
 {
-    vme_count alone;
-    memset(&alone, 0, sizeof alone);
+    vme_count alone = VME_COUNT_INIT;
     return vme_count_sleep(&alone, 0);
 }
 

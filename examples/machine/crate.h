@@ -17,7 +17,7 @@ typedef struct cpu {
 } cpu;
 
 static cpu cpus[MOST_BOARDS];
-static vme_releases releases;
+static vme_releases releases = VME_RELEASES_INIT;
 static const vme_waiter waiter = { &releases, 0, NULL, NULL };
 
 /* The address of an offset of board i, in the extended space. */
