@@ -12,8 +12,13 @@ import subprocess
 import sys
 from typing import Iterator
 
-# The files of dist/ that are built.
-BUILT = ["vme", "bendrika", "libvme.a"]
+# The files of dist/ that may be built.
+BUILT = ["vme", "bendrika", "libvme.a", "libvme_machine.a"]
+
+
+def files(root: pathlib.Path) -> list[str]:
+    """The files of dist/ that are built: those whose crate the repository has."""
+    return [name for name in BUILT if built(root, name).parent.parent.is_dir()]
 
 
 def crate_of(root: pathlib.Path, name: str) -> str:

@@ -1,4 +1,5 @@
-"""Builds the wheel of pyvme: the package with libvme.so in it, for Linux on x86-64 with glibc. It needs make and cc alone.
+"""Builds the wheel of pyvme: the package with libvme.so in it, and libvme_machine.so where its archive is built, for Linux on x86-64
+with glibc. It needs make and cc alone.
 
 A build backend of PEP 517, so `pip install ./examples/library/python` needs no registry. The same sources and compiler give
 the same bytes."""
@@ -17,11 +18,11 @@ TAG = "py3-none-manylinux_2_34_x86_64"
 EPOCH = (1980, 1, 1, 0, 0, 0)
 
 
-def shared_library() -> bytes:
-    """libvme.so, linked from the archive of the repository."""
+def shared_libraries() -> dict[str, bytes]:
+    """The shared libraries by name, linked from the archives of the repository."""
     with tempfile.TemporaryDirectory() as folder:
         subprocess.run(["make", "-s", "-C", ROOT / "lib", f"OUT={folder}"], check=True)
-        return (Path(folder) / "libvme.so").read_bytes()
+        return {it.name: it.read_bytes() for it in sorted(Path(folder).glob("lib*.so.1"))}
 
 
 def digest(text: bytes) -> str:
@@ -34,7 +35,7 @@ def build_wheel(wheel_directory: str, config_settings=None, metadata_directory=N
     name = f"pyvme-{version}"
     info = f"{name}.dist-info"
     files = {f"pyvme/{it.name}": it.read_bytes() for it in sorted((HERE / "pyvme").glob("*.py"))}
-    files["pyvme/libvme.so.1"] = shared_library()
+    files |= {f"pyvme/{it}": text for it, text in shared_libraries().items()}
     files |= {f"{info}/licenses/{it}": (ROOT / it).read_bytes() for it in ("LICENSE-APACHE", "LICENSE-MIT")}
     files[f"{info}/METADATA"] = (
         f"Metadata-Version: 2.1\nName: pyvme\nVersion: {version}\nRequires-Python: >=3.9\n"

@@ -9,6 +9,9 @@ here: `Refused` for K1 to K9 and C1 to C4, `BusError`, `NoBoard`, and `VmeError`
     >>> board.read(5, 2).hex()
     '0203'
 
+A `Machine` is the boards and the arbiter of one backplane for threads, each with a processor of its own; it needs
+libvme_machine.so.1, which LIBVME_MACHINE names.
+
 A number that does not fit its field, as an address of 2^32, is a `ValueError` with the field, the value and the range. The
 variable LIBVME names the shared object, if it is not where the loader looks for libvme.so.1.
 """
@@ -18,6 +21,8 @@ from .board import Board
 from .decoder import AddressMap
 from .errors import BusError, NoBoard, Refused, VmeError
 from .library import VERSION, version
+from .machine import Machine, MachineBoard, MachineReport, Mailbox, Processor
+from .machine_library import MOST_READ, MachineResult
 from .request import Request, answered
 from .structures import (
     IDLE,
@@ -37,6 +42,7 @@ from .tables import am_row, driven, sensed
 
 __all__ = [
     "IDLE",
+    "MOST_READ",
     "VERSION",
     "AddressMap",
     "AmRow",
@@ -49,8 +55,14 @@ __all__ = [
     "Function",
     "Kind",
     "Lines",
+    "Machine",
+    "MachineBoard",
+    "MachineReport",
+    "MachineResult",
+    "Mailbox",
     "Modify",
     "NoBoard",
+    "Processor",
     "Refused",
     "Request",
     "RequestKind",

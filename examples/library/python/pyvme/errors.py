@@ -1,12 +1,14 @@
 """Results of calls as exceptions."""
 
+from enum import IntEnum
+
 from .structures import Result
 
 
 class VmeError(Exception):
     """A call did not succeed. `result` says why."""
 
-    def __init__(self, result: Result) -> None:
+    def __init__(self, result: IntEnum) -> None:
         super().__init__(result.name)
         self.result = result
 

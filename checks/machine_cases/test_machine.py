@@ -1,0 +1,148 @@
+"""Tests of pyvme.Machine: python3 -m unittest test_machine, with LIBVME and LIBVME_MACHINE."""
+
+import threading
+import time
+import unittest
+
+from pyvme import (
+    BusError,
+    Entry,
+    Function,
+    Machine,
+    MachineBoard,
+    MachineResult,
+    Mailbox,
+    NoBoard,
+    Refused,
+    Result,
+    VmeError,
+)
+
+AM, BLOCK_AM = 0x09, 0x0B
+
+
+def address(board: int, at: int) -> int:
+    return 0x08000000 + board * 0x10000 + at
+
+
+def boards(count: int) -> list[MachineBoard]:
+    return [MachineBoard(Entry(address(i, 0), 64, 32, 0), slot=i + 1) for i in range(count)]
+
+
+class MachineTest(unittest.TestCase):
+    def has_result(self, result, call, *words) -> None:
+        """The call raises an error with this result."""
+        with self.assertRaises(VmeError) as caught:
+            call(*words)
+        self.assertEqual(caught.exception.result, result)
+
+    def test_report(self) -> None:
+        with Machine(boards(2)) as machine:
+            first, second = machine.processors
+            first.local_write(4, b"abcd")
+            self.assertEqual(second.read(AM, address(0, 5), 2), b"bc")
+            second.write(AM, address(0, 8), b"z")
+            self.assertEqual(first.local_modify(8, 2, Function.ADD, b"\0\1"), b"z\0")
+            self.assertEqual(second.modify(AM, address(0, 8), 1, Function.SET), b"z")
+            first.block_write(BLOCK_AM, address(1, 0), 4, b"0123456789abcdef")
+            self.assertEqual(first.block_read(BLOCK_AM, address(1, 8), 4, 2), b"89abcdef")
+        self.assertEqual(machine.report.steps, [5, 6])
+        self.assertEqual(machine.report.arbiter_steps, 10)
+        self.assertEqual(machine.report.memories[0][:10], b"\0\0\0\0abcd\xfa\1")
+        self.assertEqual(machine.report.memories[1][:16], b"0123456789abcdef")
+
+    def test_closed(self) -> None:
+        with Machine(boards(1)) as machine:
+            pass
+        own = machine.processors[0]
+        self.has_result(MachineResult.CLOSED, own.local_read, 0, 4)
+        self.has_result(MachineResult.CLOSED, own.read, AM, address(0, 0), 4)
+        self.has_result(MachineResult.CLOSED, own.lock, AM, address(0, 0))
+        self.has_result(MachineResult.CLOSED, machine.close)
+
+    def test_dropped_after_an_exception(self) -> None:
+        with self.assertRaises(KeyError):
+            with Machine(boards(1)) as machine:
+                raise KeyError
+        self.assertFalse(hasattr(machine, "report"))
+        self.has_result(MachineResult.CLOSED, machine.processors[0].local_read, 0, 4)
+
+    def test_refusals(self) -> None:
+        self.has_result(Result.BAD_CALL, Machine, [])
+        self.has_result(Result.BAD_CALL, Machine, [MachineBoard(Entry(0, 64, 32, 0), slot=22)])
+        self.has_result(Result.BAD_CALL, Machine, [MachineBoard(Entry(0, 64, 32, 0), slot=1, level=4)])
+        with self.assertRaises(Refused) as caught:
+            Machine([MachineBoard(Entry(0, 64, 32, 0), slot=1), MachineBoard(Entry(32, 64, 32, 0), slot=2)])
+        self.assertEqual(caught.exception.result, Result.C1)
+        with Machine(boards(2)) as machine:
+            own = machine.processors[0]
+            self.assertRaises(BusError, own.local_read, 62, 4)
+            self.assertRaises(BusError, own.local_read, 0, 3)
+            self.assertRaises(BusError, own.block_read, BLOCK_AM, address(1, 60), 4, 2)
+            self.assertRaises(NoBoard, own.read, AM, 0, 4)
+            self.has_result(Result.K3, own.read, AM, address(1, 3), 2)
+            self.has_result(Result.K8, own.write, AM, address(1, 0), b"12345")
+            self.has_result(Result.K8, own.block_write, BLOCK_AM, address(1, 0), 4, b"12345")
+            self.has_result(Result.K9, own.read, 0x40, 0, 4)
+
+    def test_numbers_that_do_not_fit(self) -> None:
+        with Machine(boards(1)) as machine:
+            own = machine.processors[0]
+            for call in (
+                lambda: own.local_read(2**32, 4),
+                lambda: own.local_read(0, 256),
+                lambda: own.read(0x109, 0, 4),
+                lambda: own.read(AM, -1, 4),
+                lambda: own.block_read(BLOCK_AM, 0, 4, 65536),
+                lambda: own.local_write(0, bytes(9)),
+            ):
+                self.assertRaises(ValueError, call)
+
+    def test_locks_and_limits(self) -> None:
+        with Machine(boards(2), limit=5) as machine:
+            first, second = machine.processors
+            first.lock(AM, address(1, 0))
+            self.assertFalse(second.try_lock(AM, address(1, 0)))
+            self.assertRaises(TimeoutError, second.lock, AM, address(1, 0))
+            first.unlock(AM, address(1, 0))
+            self.assertTrue(second.try_lock(AM, address(1, 0)))
+            with first.has_bus(AM, address(0, 0)):
+                self.has_result(MachineResult.NOT_GRANTED, second.read, AM, address(0, 0), 4)
+
+    def test_mailbox(self) -> None:
+        box = Mailbox(AM, address(1, 0), 2)
+        with Machine(boards(2), limit=5) as machine:
+            first, second = machine.processors
+            first.put(box, 1)
+            first.put(box, 0xFFFFFFFF)
+            self.assertRaises(TimeoutError, first.put, box, 3)
+            self.assertEqual([second.take(box), second.take(box)], [1, 0xFFFFFFFF])
+            self.assertRaises(TimeoutError, second.take, box)
+
+    def test_a_processor_of_two_threads(self) -> None:
+        with Machine(boards(2)) as machine:
+            first, second = machine.processors
+            second.lock(AM, address(1, 0))
+            faults: list[Exception] = []
+            started = threading.Event()
+
+            def use() -> None:
+                """Calls until another thread has met this one inside."""
+                started.set()
+                while not faults:
+                    try:
+                        first.try_lock(AM, address(1, 0))
+                    except RuntimeError as fault:
+                        faults.append(fault)
+
+            threads = [threading.Thread(target=use) for _ in range(2)]
+            for thread in threads:
+                thread.start()
+            started.wait()
+            while any(it.is_alive() for it in threads):
+                time.sleep(0.001)
+            self.assertIn("one thread at a time", str(faults[0]))
+
+
+if __name__ == "__main__":
+    unittest.main()

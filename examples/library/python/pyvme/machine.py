@@ -1,0 +1,348 @@
+"""The machine: the boards and the arbiter of one backplane as a shared object of threads."""
+
+from __future__ import annotations
+
+import threading
+import time
+from collections.abc import Callable, Iterator, Sequence
+from contextlib import ExitStack, contextmanager
+from ctypes import byref, c_size_t, c_uint8, c_uint64
+from dataclasses import dataclass, field
+from types import TracebackType
+
+from .errors import VmeError
+from .machine_library import BoardStruct, MachineResult, ProcessorStruct, machine_lib, require_machine
+from .structures import ArbiterKind, BoardClass, Datum, Entry, Function, Modify, RequestKind, RequestStruct
+
+SPINS = 10
+SLEEP = 0.001
+_PADDING = 4  # structs between two processors, so that they share no cache line
+
+
+@dataclass(frozen=True)
+class MachineBoard:
+    """A board: where it responds, to which cycles, and the slot, 1 to 21, and the request level, 0 to 3, of its processor."""
+
+    entry: Entry
+    slot: int
+    level: int = 3
+    width: int = 32
+    uat: bool = True
+    blt: bool = True
+    rmw: bool = True
+
+    def _struct(self) -> BoardStruct:
+        return BoardStruct(self.entry, BoardClass(self.width, self.uat, self.blt, self.rmw), self.slot, self.level)
+
+
+@dataclass(frozen=True)
+class Mailbox:
+    """A queue of words in the memory of a board: a lock byte at `addr`, the number of words put at 4 and taken at 8, and the words from
+    16. At first its 16 + 4 * `slots` bytes are zeros."""
+
+    am: int
+    addr: int
+    slots: int
+
+
+@dataclass(frozen=True)
+class MachineReport:
+    """What is left of a machine: the steps of each board and of the arbiter, and the bytes of each board."""
+
+    steps: list[int]
+    arbiter_steps: int
+    memories: list[bytes]
+
+
+@dataclass
+class _Releases:
+    """What the threads of a machine sleep on: counts of transfers that ended, of those that wrote, and of words of mailboxes."""
+
+    changed: threading.Condition = field(default_factory=threading.Condition)
+    counts: dict[str, int] = field(default_factory=lambda: {"bus": 0, "data": 0, "words": 0})
+
+    def increment(self, name: str) -> None:
+        with self.changed:
+            self.counts[name] += 1
+            self.changed.notify_all()
+
+    def sleep(self, name: str, count: int) -> bool:
+        """Sleeps for a millisecond, or until the count has another value than this. Returns whether it has this value."""
+        with self.changed:
+            if self.counts[name] == count:
+                self.changed.wait(SLEEP)
+            return self.counts[name] == count
+
+
+class Processor:
+    """The right of one board's program to use a machine. One thread at a time calls it; a second one gets a `RuntimeError`.
+
+    Calls wait while another thread is inside the same object or has the bus. Each raises `Refused`, `BusError`, `NoBoard`, or
+    `VmeError` with its result, as CLOSED after the machine's end."""
+
+    def __init__(self, struct: ProcessorStruct, releases: _Releases, limit: int) -> None:
+        self._own, self._releases, self._limit = struct, releases, limit
+        self._lib, self._is_used = machine_lib(), threading.Lock()
+
+    # ---- The local port of its own board ----
+
+    def local_read(self, at: int, n: int) -> bytes:
+        """Reads 1, 2 or 4 bytes at an offset."""
+        out = Datum()
+        self._local(lambda: self._lib.processor_try_local_read(byref(self._own), at, n, byref(out)))
+        return out.data
+
+    def local_write(self, at: int, data: bytes) -> None:
+        """Writes 1, 2 or 4 bytes at an offset."""
+        new = Datum.of(data)
+        self._local(lambda: self._lib.processor_try_local_write(byref(self._own), at, byref(new)))
+
+    def local_modify(self, at: int, n: int, function: Function, operand: bytes = b"", put: bytes = b"") -> bytes:
+        """Modifies 1, 2 or 4 bytes at an offset in one step, and returns the old ones."""
+        out, f = Datum(), Modify.of(function, operand, put)
+        self._local(lambda: self._lib.processor_try_local_modify(byref(self._own), at, n, byref(f), byref(out)))
+        return out.data
+
+    # ---- Transfers over the bus ----
+
+    def read(self, am: int, addr: int, n: int) -> bytes:
+        """Reads 1 to 4 bytes by one cycle."""
+        return self._transfer(RequestStruct(addr, 0, am, RequestKind.READ, n))
+
+    def write(self, am: int, addr: int, data: bytes) -> None:
+        """Writes 1 to 4 bytes by one cycle."""
+        self._transfer(RequestStruct(addr, 0, am, RequestKind.WRITE, min(len(data), 255)), data)
+
+    def modify(self, am: int, addr: int, n: int, function: Function, operand: bytes = b"", put: bytes = b"") -> bytes:
+        """Modifies bytes in one step, and returns the old ones."""
+        return self._transfer(RequestStruct(addr, 0, am, RequestKind.MODIFY, n, Modify.of(function, operand, put)))
+
+    def block_read(self, am: int, addr: int, n: int, count: int) -> bytes:
+        """Reads a block of count data of n bytes each, `MOST_READ` bytes at most."""
+        return self._transfer(RequestStruct(addr, count, am, RequestKind.BLOCK_READ, n))
+
+    def block_write(self, am: int, addr: int, n: int, data: bytes) -> None:
+        """Writes bytes as a block of data of n bytes each."""
+        count = len(data) // n if n and len(data) % n == 0 and len(data) // n <= 256 else 0
+        self._transfer(RequestStruct(addr, count, am, RequestKind.BLOCK_WRITE, n), data)
+
+    @contextmanager
+    def has_bus(self, am: int, addr: int) -> Iterator[None]:
+        """Has the bus for the body of a `with`, during a read of a byte at an address. The body makes no other transfer of this
+        processor."""
+        with self._alone():
+            request = RequestStruct(addr, 0, am, RequestKind.READ, 1)
+            require_machine(self._lib.processor_start_read(byref(self._own), byref(request)))
+            self._step(until_granted=True)
+        try:
+            yield
+        finally:
+            with self._alone():
+                self._finish(False)
+
+    # ---- Locks and mailboxes ----
+
+    def try_lock(self, am: int, addr: int) -> bool:
+        """Tries once to take the lock in bit 7 of a byte. Returns whether this processor has it now."""
+        set_bit = RequestStruct(addr, 0, am, RequestKind.MODIFY, 1, Modify.of(Function.SET))
+        # No lock becomes free, so no thread that waits for one is woken.
+        return self._transfer(set_bit, wakes=False)[0] & 0x80 == 0
+
+    def lock(self, am: int, addr: int) -> None:
+        """Takes the lock at an address, and waits until it is free."""
+        self._until("data", lambda: self.try_lock(am, addr))
+
+    def unlock(self, am: int, addr: int) -> None:
+        """Gives the lock at an address back: clears its byte."""
+        self.write(am, addr, b"\0")
+
+    def put(self, box: Mailbox, word: int) -> None:
+        """Puts a word of 32 bits into a mailbox, and waits until there is a slot."""
+        data = word.to_bytes(4, "big")
+        self._until("words", lambda: self._moves(box, 4, data) is not None)
+
+    def take(self, box: Mailbox) -> int:
+        """Takes the oldest word of a mailbox, and waits until there is one."""
+        taken: list[bytes] = []
+
+        def take() -> bool:
+            data = self._moves(box, 8, None)
+            taken.extend([] if data is None else [data])
+            return bool(taken)
+
+        self._until("words", take)
+        return int.from_bytes(taken[0], "big")
+
+    def _moves(self, box: Mailbox, index: int, new: bytes | None) -> bytes | None:
+        """Moves a word into a mailbox, or out of it, if there is a slot or a word. Returns it."""
+        self.lock(box.am, box.addr)
+        try:
+            counts = {at: int.from_bytes(self.read(box.am, box.addr + at, 4), "big") for at in (4, 8)}
+            words = counts[4] - counts[8]
+            if words >= box.slots if new is not None else words == 0:
+                return None
+            if new is not None and counts[4] == 2**32 - 1:
+                raise VmeError(MachineResult.SPENT)
+            place = box.addr + 16 + 4 * (counts[index] % box.slots)
+            data = self.read(box.am, place, 4) if new is None else new
+            if new is not None:
+                self.write(box.am, place, new)
+            self.write(box.am, box.addr + index, (counts[index] + 1).to_bytes(4, "big"))
+        finally:
+            self.unlock(box.am, box.addr)
+        self._releases.increment("words")
+        return data
+
+    # ---- How it waits ----
+
+    @contextmanager
+    def _alone(self) -> Iterator[None]:
+        if not self._is_used.acquire(blocking=False):
+            raise RuntimeError("a processor is used by one thread at a time")
+        try:
+            yield
+        finally:
+            self._is_used.release()
+
+    def _sleep(self, tries: int, name: str, count: int) -> bool:
+        """Waits once before the next try. Returns whether nothing has changed during a sleep."""
+        if tries < SPINS:
+            time.sleep(0)
+            return False
+        return self._releases.sleep(name, count)
+
+    def _until(self, name: str, call: Callable[[], bool]) -> None:
+        """Calls until it returns true, and sleeps in between on a count. Raises `TimeoutError` at the limit."""
+        tries = slept = 0
+        while True:
+            count = self._releases.counts[name]
+            if call():
+                return
+            slept = slept + 1 if self._sleep(tries, name, count) else 0
+            tries += 1
+            if self._limit and slept >= self._limit:
+                raise TimeoutError(f"nothing has changed for {slept} ms")
+
+    def _try(self, call: Callable[[], int]) -> int:
+        """The result of a call that is tried again while it is busy or not granted."""
+        tries = slept = 0
+        while True:
+            count = self._releases.counts["bus"]
+            result = call()
+            if result not in (MachineResult.BUSY, MachineResult.NOT_GRANTED) or self._limit and slept >= self._limit:
+                return result
+            slept = slept + 1 if self._sleep(tries, "bus", count) else 0
+            tries += 1
+
+    def _local(self, call: Callable[[], int]) -> None:
+        with self._alone():
+            require_machine(self._try(call))
+
+    def _step(self, until_granted: bool = False) -> None:
+        """Steps a transfer until it has the bus, or until it ends."""
+        while (result := self._try(lambda: self._lib.processor_step(byref(self._own)))) == MachineResult.MORE:
+            if until_granted:
+                return
+        require_machine(result)
+
+    def _finish(self, wakes: bool) -> None:
+        """Steps a transfer until it ends. `wakes` says whether it may have written what others wait for."""
+        try:
+            self._step()
+        finally:
+            self._releases.increment("bus")
+            if wakes:
+                self._releases.increment("data")
+
+    def _start(self, request: RequestStruct, data: bytes) -> int:
+        own = byref(self._own)
+        if request.kind in (RequestKind.WRITE, RequestKind.BLOCK_WRITE):
+            return self._lib.processor_start_write(own, byref(request), (c_uint8 * max(1, len(data)))(*data), len(data))
+        if request.kind == RequestKind.MODIFY:
+            return self._lib.processor_start_modify(own, byref(request), byref(request.f))
+        return self._lib.processor_start_read(own, byref(request))
+
+    def _transfer(self, request: RequestStruct, data: bytes = b"", *, wakes: bool = True) -> bytes:
+        """Makes a transfer. Returns the bytes that it read."""
+        with self._alone():
+            require_machine(self._start(request, data))
+            self._finish(wakes and request.kind not in (RequestKind.READ, RequestKind.BLOCK_READ))
+            size, count = request.n * max(1, request.count), c_size_t()
+            out = (c_uint8 * size)()
+            require_machine(self._lib.processor_bytes(byref(self._own), out, size, byref(count)))
+            return bytes(out[: count.value])
+
+
+class Machine:
+    """The boards and the arbiter of one backplane. Each of its `processors`, in order of slots, goes to a thread:
+
+        with Machine([MachineBoard(Entry(0x08000000, 4096, 32, 0), slot=1)]) as machine:
+            thread = threading.Thread(target=program, args=(machine.processors[0],))
+            thread.start()
+            thread.join()
+        print(machine.report.steps)
+
+    The body of the `with` ends after its threads. The machine is then closed, and `report` has what is left of it; after an exception
+    its processors are dropped, and there is no report."""
+
+    report: MachineReport
+
+    def __init__(self, boards: Sequence[MachineBoard], kind: ArbiterKind = ArbiterKind.PRIORITY, *, limit: int = 0) -> None:
+        """Opens a machine of zeros. `limit` is the number of sleeps of a millisecond in which nothing changes, after which a call gives
+        up; 0 for none. Raises `Refused` with C1 to C4, `VmeError` with BAD_CALL, and `MemoryError`."""
+        count = len(boards)
+        self._sizes = [it.entry.size for it in boards]
+        opened = (ProcessorStruct * max(1, count))()
+        structs = (BoardStruct * max(1, count))(*(it._struct() for it in boards))
+        require_machine(machine_lib().machine_open(structs, count, kind, opened, count))
+        self._line = (ProcessorStruct * (_PADDING * count))()
+        for i in range(count):
+            self._line[_PADDING * i] = opened[i]
+        releases = _Releases()
+        self.processors = [Processor(self._line[_PADDING * i], releases, limit) for i in range(count)]
+
+    def close(self) -> MachineReport:
+        """Closes the machine, once no call runs. Raises `VmeError` with CLOSED if it is closed."""
+        with self._all_alone():
+            return self._close()
+
+    def _close(self) -> MachineReport:
+        count = len(self.processors)
+        together = (ProcessorStruct * count)(*(self._line[_PADDING * i] for i in range(count)))
+        steps, memory = (c_uint64 * (count + 1))(), (c_uint8 * sum(self._sizes))()
+        require_machine(machine_lib().machine_close(together, count, steps, count + 1, memory, len(memory)))
+        for own in self._line:
+            own.full, own.hidden = 0, None
+        memories, at = [], 0
+        for size in self._sizes:
+            memories.append(bytes(memory[at : at + size]))
+            at += size
+        self.report = MachineReport(list(steps[:count]), steps[count], memories)
+        return self.report
+
+    def drop(self) -> None:
+        """Gives all processors up, once no call runs."""
+        with self._all_alone():
+            for i in range(len(self.processors)):
+                machine_lib().processor_drop(byref(self._line[_PADDING * i]))
+
+    @contextmanager
+    def _all_alone(self) -> Iterator[None]:
+        """Waits until no call of a processor runs, and lets none run."""
+        with ExitStack() as stack:
+            for own in self.processors:
+                stack.enter_context(own._is_used)
+            yield
+
+    def __enter__(self) -> Machine:
+        return self
+
+    def __exit__(self, kind: type[BaseException] | None, error: BaseException | None, trace: TracebackType | None) -> None:
+        if kind is None:
+            self.close()
+        else:
+            self.drop()
+
+    def __del__(self) -> None:
+        if hasattr(self, "_line"):
+            self.drop()

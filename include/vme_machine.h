@@ -1,0 +1,152 @@
+/* vme_machine.h: one backplane of the VMEbus as a shared object, for programs with threads.
+ *
+ * A machine is the boards and the arbiter of one backplane. A processor is the right of one board's
+ * program to use them: a program opens a machine, gets a processor for each slot, and gives each to one
+ * host thread. It is proved that the events of all processors have one order in which each reply is that
+ * of a sequential byte memory or of the arbiter, and in which the events of one processor keep theirs.
+ *
+ * Waiting.   No call waits. A call that meets another thread inside the same object returns VME_BUSY and
+ *            has changed nothing. vme_wait.h has calls that wait.
+ * Memory.    A machine lies in memory that rattle_alloc gives: libvme_machine has one over malloc. A program
+ *            that defines rattle_alloc, rattle_realloc and rattle_dealloc itself chooses the memory. Opening,
+ *            closing, dropping and starting allocate and free; no call that makes an event does.
+ * Results.   VME_OK or the reason of a failure. A call that fails has written nothing but what its
+ *            comment says.
+ *
+ * What the caller owes. Nothing can test it, unless the text of a call says so:
+ *
+ * 1. A vme_processor starts as zeros, and the library alone changes it. It may be moved: copied, and the
+ *    old one set to zeros. It is never used as two. vme_machine_open gets empty ones; what a full one has
+ *    is lost.
+ * 2. At most one call at a time uses a processor. Another thread may use it later, if a lock, the start or
+ *    the join of a thread, or a sequentially consistent atomic orders the two calls.
+ * 3. vme_machine_close gets all processors of one machine, each once, while no call runs.
+ * 4. Pointers are not null, not even with length 0, and aligned. They point to objects of their types, which
+ *    are initialized unless the call only writes them. What a call writes overlaps no other argument.
+ * 5. The three functions rattle_alloc, rattle_realloc and rattle_dealloc are one allocator, which aligns to
+ *    16 bytes.
+ * 6. No signal handler calls with a processor that an interrupted call uses, and no fork while a call runs.
+ */
+#ifndef VME_MACHINE_H
+#define VME_MACHINE_H
+
+#include "vme.h"
+
+#ifdef __cplusplus
+extern "C" {
+#endif
+
+/* ---- Results, besides those of vme.h ---- */
+
+enum {
+    VME_NO_MEMORY = 0x25,   /* An allocation failed. */
+    VME_NOT_GRANTED = 0x31, /* Another slot has the bus: the transfer has not begun. */
+    VME_BUS_DENIED = 0x32,  /* The arbiter denied a command of the transfer. For no processor of a machine it does. */
+    VME_MORE = 0x34,        /* One event has happened, and the transfer goes on. */
+    VME_BUSY = 0x50,        /* Another call is inside the object. Nothing has happened: try again. */
+    VME_CLOSED = 0x51,      /* The processor is empty: not opened, closed or dropped. */
+    VME_SPENT = 0x52        /* The object has made 2^64 - 1 steps, and makes no more. */
+};
+
+/* ---- Machines ---- */
+
+/* A processor of a machine, or nothing. {0} is an empty one. Keep those of two threads on two cache
+ * lines: side by side they cost each other a part of their speed. */
+typedef struct vme_processor {
+    uint8_t full; /* 1 if it is open, 0 if it is empty */
+    void *hidden;
+} vme_processor;
+
+/* A board: where it responds, to which cycles, and the slot and the request level of its processor. */
+typedef struct vme_board {
+    vme_entry entry; /* base, size, space and privilege */
+    vme_class cls;   /* the cycles to which its slave replies */
+    uint16_t slot;   /* 1 to 21, ascending */
+    uint8_t level;   /* 0 to 3, the level on which its requester asks for the bus */
+} vme_board;
+
+/* Opens a machine of count boards of zeros, with an arbiter of a kind of vme.h, and writes the processor
+ * of board i to out[i]. Fails with VME_C1 to VME_C4 if the entries are no lawful map; with VME_BAD_CALL if
+ * there is no board, if out_count is less than count, if the slots do not ascend from 1 to 21, if a level is
+ * above 3, or if a size is not a multiple of 4 from 4 to 1,048,576; and with VME_NO_MEMORY. */
+uint8_t vme_machine_open(const vme_board *boards, size_t count, uint8_t arbiter, vme_processor *out,
+                         size_t out_count);
+
+/* Closes a machine with all its count processors, in any order, and leaves the structs empty. Writes to
+ * steps the steps of each board in order of slots and then those of the arbiter, as many as fit in
+ * steps_count numbers, and to bytes the bytes of all boards one after another, as many as fit in size.
+ * Fails with VME_CLOSED if a struct is empty; with VME_BAD_CALL if count is 0, or if these are not all
+ * processors of one machine, each once; and with VME_NO_MEMORY. After a failure the machine is as it was. */
+uint8_t vme_machine_close(vme_processor *all, size_t count, uint64_t *steps, size_t steps_count,
+                          uint8_t *bytes, size_t size);
+
+/* Gives up one processor and leaves its struct empty. Its machine can then not be closed; its memory is
+ * freed with the last processor. Fails with VME_CLOSED. */
+uint8_t vme_processor_drop(vme_processor *p);
+
+/* ---- One event by the local port of the processor's own board ---- */
+
+/* Reads 1, 2 or 4 bytes at an offset. Fails with VME_BERR if there are no such bytes, and with VME_BUSY,
+ * VME_CLOSED and VME_SPENT. */
+uint8_t vme_processor_try_local_read(vme_processor *p, uint32_t at, uint8_t n, vme_datum *out);
+
+/* Writes 1, 2 or 4 bytes at an offset. Fails as the read does. */
+uint8_t vme_processor_try_local_write(vme_processor *p, uint32_t at, const vme_datum *datum);
+
+/* Modifies 1, 2 or 4 bytes at an offset in one step, and writes the old ones to out. Fails as the read
+ * does, and with VME_BERR if the operands of f do not have n bytes. */
+uint8_t vme_processor_try_local_modify(vme_processor *p, uint32_t at, uint8_t n, const vme_modify *f,
+                                       vme_datum *out);
+
+/* The most bytes that one transfer reads. */
+enum { VME_MOST_READ = 40 };
+
+/* ---- A transfer over the bus: start it, then step it until it ends ----
+ *
+ * A transfer is a tenure of the bus: the processor's requester asks the arbiter for it, then each datum
+ * is one event of the board that responds, then the bus is released. Any processor may reach any board
+ * of the machine, its own one too. */
+
+/* Starts a read: of a block if the kind is VME_BLOCK_READ, and otherwise of one datum. Fails with the
+ * request's first refusal; with VME_BAD_CALL if a transfer of this processor has not ended, or if more than
+ * VME_MOST_READ bytes are read; and with VME_CLOSED. */
+uint8_t vme_processor_start_read(vme_processor *p, const vme_request *request);
+
+/* Starts a write of size bytes, which are copied: as a block of data of request->n bytes if the kind is
+ * VME_BLOCK_WRITE, and otherwise as one datum. Ignores request->count. Fails as a read does, and with
+ * VME_NO_MEMORY. */
+uint8_t vme_processor_start_write(vme_processor *p, const vme_request *request, const uint8_t *bytes,
+                                  size_t size);
+
+/* Starts a read-modify-write by f. Ignores the kind, count and f of the request. Fails as a read does. */
+uint8_t vme_processor_start_modify(vme_processor *p, const vme_request *request, const vme_modify *f);
+
+/* Makes at most one event of the transfer. Returns VME_MORE, VME_NOT_GRANTED, VME_BUSY or VME_SPENT while
+ * it goes on; with its first VME_MORE the processor has the bus. It has ended, and the bus is released,
+ * with VME_OK; with VME_BERR if the board drove BERR*, after which the data before it have been moved; and
+ * with VME_NO_BOARD if no board responds. A step after the end returns the end again. Fails with
+ * VME_BAD_CALL if no transfer was started, and with VME_CLOSED. */
+uint8_t vme_processor_step(vme_processor *p);
+
+/* Writes the bytes that the last transfer read, once it has ended, and their number to count: after a
+ * read-modify-write the old ones, after a bus error those before it, and otherwise none. Fails with
+ * VME_BAD_CALL if they are more than size, and then writes only their number; and with VME_CLOSED. */
+uint8_t vme_processor_bytes(vme_processor *p, uint8_t *out, size_t size, size_t *count);
+
+#ifdef __cplusplus
+}
+#endif
+
+/* The layouts that the library was built with. */
+#if defined(__cplusplus) && __cplusplus >= 201103L
+#define VME_LAYOUT(type, size) static_assert(sizeof(type) == (size), "layout of " #type)
+#elif defined(__STDC_VERSION__) && __STDC_VERSION__ >= 201112L
+#define VME_LAYOUT(type, size) _Static_assert(sizeof(type) == (size), "layout of " #type)
+#else
+#define VME_LAYOUT(type, size) typedef char type##_layout[sizeof(type) == (size) ? 1 : -1]
+#endif
+VME_LAYOUT(vme_processor, 2 * sizeof(void *));
+VME_LAYOUT(vme_board, 20);
+#undef VME_LAYOUT
+
+#endif

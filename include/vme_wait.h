@@ -1,0 +1,538 @@
+/* vme_wait.h: calls of vme_machine.h that wait. C11 and C++11, for gcc, clang and compilers with their atomics.
+ *
+ * A call of the machine only tries. A call of this file tries again until it has ended:
+ *
+ * - while another thread is inside the same object (VME_BUSY), it spins, yields, and then sleeps;
+ * - while another slot has the bus (VME_NOT_GRANTED), it spins and then sleeps on a count of releases, which
+ *   each transfer of this file that ends increments and wakes;
+ * - a lock that another processor has is tried again after a write of this file that ended.
+ *
+ * Each sleep takes 1 ms at most, so no lost wake-up blocks for ever, even if other code calls the machine
+ * without this file. Fairness is not promised. On Linux a sleep is a futex, which needs no setup and works
+ * between processes; elsewhere it is a mutex with a condition variable.
+ *
+ * Nothing of this file is proved, and no proof depends on it: it decides when to call the machine, and the
+ * machine's replies are what it returns.
+ *
+ * vme_releases. One for each machine, VME_RELEASES_INIT at first, which on Linux is zeros. All threads that
+ *               use the machine share it; for processes it lies in the mapping that they share.
+ * vme_waiter.   How a thread waits. It is read only, so threads may share one. {0} is lawful: without releases
+ *               a waiter sleeps its millisecond.
+ * limit.        The number of sleeps in a row, of 1 ms each, in which nothing changed, after which a call gives
+ *               up; 0 for no limit. It then returns what it waited for: VME_BUSY if a thread or a process
+ *               has stopped or died inside the object, and VME_NOT_GRANTED if one has the bus and does
+ *               not release it. The transfer still goes on: vme_finish continues it.
+ * pause.        Called in place of each spin and sleep, with the pointer `with`, if it is not null: a simulator
+ *               runs its other work there. limit then is the number of pauses.
+ *
+ * Thread sanitizer: the archive is not instrumented. A program that is, gets each call of this file as an
+ * acquire and a release of the waiter's releases. So it reports no false race, but it misses a race of
+ * threads that happened to call the machine in between.
+ */
+#ifndef VME_WAIT_H
+#define VME_WAIT_H
+
+#include "vme_machine.h"
+
+#include <sched.h>
+#include <string.h>
+#include <time.h>
+
+#if defined(__linux__)
+#include <errno.h>
+#include <sys/syscall.h>
+#include <unistd.h>
+#ifndef __cplusplus
+long syscall(long number, ...); /* not declared in a strict C11 program */
+#endif
+#else
+#include <pthread.h>
+#endif
+
+#if defined(__SANITIZE_THREAD__)
+#define VME_HAS_TSAN 1
+#elif defined(__has_feature)
+#if __has_feature(thread_sanitizer)
+#define VME_HAS_TSAN 1
+#endif
+#endif
+
+#ifdef __cplusplus
+extern "C" {
+#endif
+
+#ifdef VME_HAS_TSAN
+void __tsan_acquire(void *address);
+void __tsan_release(void *address);
+#endif
+
+/* ---- Results, besides those of vme_machine.h ---- */
+
+enum {
+    VME_HELD = 0x53, /* Another processor has the lock. */
+    VME_FULL = 0x54, /* The mailbox has as many words as slots. */
+    VME_EMPTY = 0x55 /* The mailbox has no word. */
+};
+
+/* ---- What threads wait on ---- */
+
+/* A count on which threads sleep until it changes. */
+typedef struct vme_count {
+    uint32_t value;
+    uint32_t sleepers;
+#if !defined(__linux__)
+    pthread_mutex_t mutex;
+    pthread_cond_t changed;
+#endif
+} vme_count;
+
+#if defined(__linux__)
+#define VME_COUNT_INIT { 0, 0 }
+#else
+#define VME_COUNT_INIT { 0, 0, PTHREAD_MUTEX_INITIALIZER, PTHREAD_COND_INITIALIZER }
+#endif
+#define VME_RELEASES_INIT { VME_COUNT_INIT, VME_COUNT_INIT, VME_COUNT_INIT }
+
+/* What a machine's threads wait on. */
+typedef struct vme_releases {
+    vme_count bus;   /* transfers that ended */
+    vme_count data;  /* transfers that ended and wrote */
+    vme_count words; /* words that were moved into a mailbox or out of it */
+} vme_releases;
+
+/* How a thread waits; see above. */
+typedef struct vme_waiter {
+    vme_releases *releases;
+    uint32_t limit;
+    void (*pause)(void *with);
+    void *with;
+} vme_waiter;
+
+/* ---- Sleeping, for the calls below ---- */
+
+enum { VME_SPINS = 10, VME_YIELDS = 200, VME_MOST_SLEEP = 1000000 /* ns */ };
+
+/* The value of a count, or 0 without one. */
+static inline uint32_t vme_count_value(const vme_count *count)
+{
+    return count ? __atomic_load_n(&count->value, __ATOMIC_SEQ_CST) : 0;
+}
+
+/* Increments a count, and wakes those that sleep on it. */
+static inline void vme_count_increment(vme_count *count)
+{
+    if (!count)
+        return;
+    __atomic_fetch_add(&count->value, 1, __ATOMIC_SEQ_CST);
+    if (__atomic_load_n(&count->sleepers, __ATOMIC_SEQ_CST) == 0)
+        return;
+#if defined(__linux__)
+    syscall(SYS_futex, &count->value, 1 /* FUTEX_WAKE */, 0x7fffffff, NULL, NULL, 0);
+#else
+    pthread_mutex_lock(&count->mutex);
+    pthread_cond_broadcast(&count->changed);
+    pthread_mutex_unlock(&count->mutex);
+#endif
+}
+
+/* Sleeps for 1 ms, or until a count has another value than this. Returns whether it slept all the time. */
+static inline int vme_count_sleep(vme_count *count, uint32_t value)
+{
+#if defined(__linux__)
+    const struct timespec most = { 0, VME_MOST_SLEEP };
+    const int kept = errno;
+    __atomic_fetch_add(&count->sleepers, 1, __ATOMIC_SEQ_CST);
+    const long slept = syscall(SYS_futex, &count->value, 0 /* FUTEX_WAIT */, value, &most, NULL, 0);
+    const int is_whole = slept == -1 && errno == ETIMEDOUT;
+    __atomic_fetch_sub(&count->sleepers, 1, __ATOMIC_SEQ_CST);
+    errno = kept;
+    return is_whole;
+#else
+    struct timespec end;
+    int result = 0;
+    timespec_get(&end, TIME_UTC);
+    end.tv_sec += (end.tv_nsec + VME_MOST_SLEEP) / 1000000000;
+    end.tv_nsec = (end.tv_nsec + VME_MOST_SLEEP) % 1000000000;
+    pthread_mutex_lock(&count->mutex);
+    __atomic_fetch_add(&count->sleepers, 1, __ATOMIC_SEQ_CST);
+    while (vme_count_value(count) == value && result == 0)
+        result = pthread_cond_timedwait(&count->changed, &count->mutex, &end);
+    __atomic_fetch_sub(&count->sleepers, 1, __ATOMIC_SEQ_CST);
+    pthread_mutex_unlock(&count->mutex);
+    return result != 0;
+#endif
+}
+
+/* Sleeps for 1 ms. */
+static inline int vme_sleep(void)
+{
+    vme_count alone = VME_COUNT_INIT;
+    return vme_count_sleep(&alone, 0);
+}
+
+/* How often a call has tried, and how many sleeps in a row changed nothing. */
+typedef struct vme_tries {
+    uint32_t tries;
+    uint32_t slept;
+} vme_tries;
+
+/* Waits once before the next try: for a change of count, which had this value before the try, or for a moment if count
+ * is null. Returns 0 if the waiter's limit is reached. */
+static inline int vme_wait(const vme_waiter *waiter, vme_count *count, uint32_t value, vme_tries *tries)
+{
+    const uint32_t spins = VME_SPINS, yields = count ? 0 : VME_YIELDS;
+    if (waiter->limit && tries->slept >= waiter->limit)
+        return 0;
+    tries->tries++;
+    if (waiter->pause) {
+        waiter->pause(waiter->with);
+        tries->slept++;
+    } else if (tries->tries <= spins) {
+#if defined(__x86_64__) || defined(__i386__)
+        __builtin_ia32_pause();
+#elif defined(__aarch64__)
+        __asm__ volatile("yield");
+#endif
+    } else if (tries->tries <= spins + yields) {
+        sched_yield();
+    } else {
+        const int is_whole = count ? vme_count_sleep(count, value) : vme_sleep();
+        tries->slept = is_whole ? tries->slept + 1 : 0;
+    }
+    return 1;
+}
+
+static inline vme_count *vme_bus_of(const vme_waiter *waiter)
+{
+    return waiter->releases ? &waiter->releases->bus : NULL;
+}
+
+static inline vme_count *vme_data_of(const vme_waiter *waiter)
+{
+    return waiter->releases ? &waiter->releases->data : NULL;
+}
+
+static inline vme_count *vme_words_of(const vme_waiter *waiter)
+{
+    return waiter->releases ? &waiter->releases->words : NULL;
+}
+
+/* The order of the machine's events, as thread sanitizer sees it. */
+static inline void vme_before_event(const vme_waiter *waiter)
+{
+#ifdef VME_HAS_TSAN
+    __tsan_release(waiter->releases ? (void *)waiter->releases : (void *)(uintptr_t)waiter);
+#else
+    (void)waiter;
+#endif
+}
+
+static inline void vme_after_event(const vme_waiter *waiter)
+{
+#ifdef VME_HAS_TSAN
+    __tsan_acquire(waiter->releases ? (void *)waiter->releases : (void *)(uintptr_t)waiter);
+#else
+    (void)waiter;
+#endif
+}
+
+/* ---- The local port of the processor's own board ---- */
+
+/* As vme_processor_try_local_read, but it waits while the board is busy. */
+static inline uint8_t vme_processor_local_read(vme_processor *p, const vme_waiter *waiter, uint32_t at, uint8_t n, vme_datum *out)
+{
+    vme_tries tries = { 0, 0 };
+    uint8_t result;
+    do {
+        vme_before_event(waiter);
+        result = vme_processor_try_local_read(p, at, n, out);
+        vme_after_event(waiter);
+    } while (result == VME_BUSY && vme_wait(waiter, NULL, 0, &tries));
+    return result;
+}
+
+/* As vme_processor_try_local_write, but it waits while the board is busy. */
+static inline uint8_t vme_processor_local_write(vme_processor *p, const vme_waiter *waiter, uint32_t at, const vme_datum *datum)
+{
+    vme_tries tries = { 0, 0 };
+    uint8_t result;
+    do {
+        vme_before_event(waiter);
+        result = vme_processor_try_local_write(p, at, datum);
+        vme_after_event(waiter);
+    } while (result == VME_BUSY && vme_wait(waiter, NULL, 0, &tries));
+    return result;
+}
+
+/* As vme_processor_try_local_modify, but it waits while the board is busy. */
+static inline uint8_t vme_processor_local_modify(vme_processor *p, const vme_waiter *waiter, uint32_t at, uint8_t n,
+                                                 const vme_modify *f, vme_datum *out)
+{
+    vme_tries tries = { 0, 0 };
+    uint8_t result;
+    do {
+        vme_before_event(waiter);
+        result = vme_processor_try_local_modify(p, at, n, f, out);
+        vme_after_event(waiter);
+    } while (result == VME_BUSY && vme_wait(waiter, NULL, 0, &tries));
+    return result;
+}
+
+/* ---- Transfers over the bus ---- */
+
+/* Steps a transfer that was started until the processor has the bus, which it keeps until the transfer ends: what other processors do
+ * between their own VME_OK and their end, they do before or after. Returns VME_OK, what the waiter's limit gives, VME_BAD_CALL or
+ * VME_CLOSED. */
+static inline uint8_t vme_acquire(vme_processor *p, const vme_waiter *waiter)
+{
+    vme_tries tries = { 0, 0 };
+    for (;;) {
+        const uint32_t value = vme_count_value(vme_bus_of(waiter));
+        vme_before_event(waiter);
+        const uint8_t result = vme_processor_step(p);
+        vme_after_event(waiter);
+        if (result == VME_MORE)
+            return VME_OK;
+        if (result != VME_BUSY && result != VME_NOT_GRANTED)
+            return result;
+        if (!vme_wait(waiter, result == VME_BUSY ? NULL : vme_bus_of(waiter), value, &tries))
+            return result;
+    }
+}
+
+/* Steps a transfer that was started until it ends, and returns the result of its last step. */
+static inline uint8_t vme_finish(vme_processor *p, const vme_waiter *waiter)
+{
+    vme_tries tries = { 0, 0 };
+    for (;;) {
+        const uint32_t value = vme_count_value(vme_bus_of(waiter));
+        vme_before_event(waiter);
+        const uint8_t result = vme_processor_step(p);
+        vme_after_event(waiter);
+        if (result == VME_MORE)
+            memset(&tries, 0, sizeof tries);
+        else if (result == VME_BUSY || result == VME_NOT_GRANTED) {
+            if (!vme_wait(waiter, result == VME_BUSY ? NULL : vme_bus_of(waiter), value, &tries))
+                return result;
+        } else {
+            if (result == VME_OK || result == VME_BERR || result == VME_NO_BOARD)
+                vme_count_increment(vme_bus_of(waiter));
+            return result;
+        }
+    }
+}
+
+/* The same for a transfer that writes. */
+static inline uint8_t vme_finish_write(vme_processor *p, const vme_waiter *waiter)
+{
+    const uint8_t result = vme_finish(p, waiter);
+    if (result == VME_OK || result == VME_BERR)
+        vme_count_increment(vme_data_of(waiter));
+    return result;
+}
+
+static inline vme_request vme_request_of(uint8_t kind, uint8_t am, uint32_t addr, uint8_t n, uint16_t count)
+{
+    vme_request request;
+    memset(&request, 0, sizeof request);
+    request.kind = kind;
+    request.am = am;
+    request.addr = addr;
+    request.n = n;
+    request.count = count;
+    return request;
+}
+
+/* The bytes of the last transfer as a datum. */
+static inline uint8_t vme_read_bytes(vme_processor *p, vme_datum *out)
+{
+    size_t count = 0;
+    vme_datum datum = { 0, { 0 } };
+    const uint8_t result = vme_processor_bytes(p, datum.bytes, sizeof datum.bytes, &count);
+    datum.n = (uint8_t)count;
+    if (result == VME_OK)
+        *out = datum;
+    return result;
+}
+
+/* Reads n bytes at an address by one cycle. Returns VME_OK, VME_BERR, VME_NO_BOARD, a refusal, or what the waiter's limit
+ * gives. */
+static inline uint8_t vme_read(vme_processor *p, const vme_waiter *waiter, uint8_t am, uint32_t addr, uint8_t n, vme_datum *out)
+{
+    const vme_request request = vme_request_of(VME_READ, am, addr, n, 0);
+    uint8_t result = vme_processor_start_read(p, &request);
+    if (result == VME_OK)
+        result = vme_finish(p, waiter);
+    return result == VME_OK ? vme_read_bytes(p, out) : result;
+}
+
+/* Writes a datum at an address by one cycle. Returns what a read does. */
+static inline uint8_t vme_write(vme_processor *p, const vme_waiter *waiter, uint8_t am, uint32_t addr, const vme_datum *datum)
+{
+    const size_t n = datum->n > 8 ? 8 : datum->n;
+    const vme_request request = vme_request_of(VME_WRITE, am, addr, (uint8_t)n, 0);
+    const uint8_t result = vme_processor_start_write(p, &request, datum->bytes, n);
+    return result == VME_OK ? vme_finish_write(p, waiter) : result;
+}
+
+/* Modifies n bytes at an address in one step, and writes the old ones to out. Returns what a read does. */
+static inline uint8_t vme_read_modify_write(vme_processor *p, const vme_waiter *waiter, uint8_t am, uint32_t addr, uint8_t n,
+                                            const vme_modify *f, vme_datum *out)
+{
+    const vme_request request = vme_request_of(VME_MODIFY, am, addr, n, 0);
+    uint8_t result = vme_processor_start_modify(p, &request, f);
+    if (result == VME_OK)
+        result = vme_finish_write(p, waiter);
+    return result == VME_OK ? vme_read_bytes(p, out) : result;
+}
+
+/* Reads a block of count data of n bytes each, VME_MOST_READ bytes at most, to out, which has count * n bytes. Writes to moved how many
+ * bytes were read: all with VME_OK, and with VME_BERR those before the error. Returns what a read does, and VME_BAD_CALL for more bytes. */
+static inline uint8_t vme_block_read(vme_processor *p, const vme_waiter *waiter, uint8_t am, uint32_t addr, uint8_t n, uint16_t count,
+                                     uint8_t *out, size_t *moved)
+{
+    const vme_request request = vme_request_of(VME_BLOCK_READ, am, addr, n, count);
+    uint8_t result = vme_processor_start_read(p, &request);
+    *moved = 0;
+    if (result != VME_OK)
+        return result;
+    result = vme_finish(p, waiter);
+    if (result == VME_OK || result == VME_BERR)
+        vme_processor_bytes(p, out, (size_t)n * count, moved);
+    return result;
+}
+
+/* Writes a block of count data of n bytes each. With VME_BERR the data before the error were written. Returns what a read does. */
+static inline uint8_t vme_block_write(vme_processor *p, const vme_waiter *waiter, uint8_t am, uint32_t addr, uint8_t n, uint16_t count,
+                                      const uint8_t *bytes)
+{
+    const vme_request request = vme_request_of(VME_BLOCK_WRITE, am, addr, n, count);
+    const uint8_t result = vme_processor_start_write(p, &request, bytes, (size_t)n * count);
+    return result == VME_OK ? vme_finish_write(p, waiter) : result;
+}
+
+/* ---- Locks: bit 7 of a byte, which a read-modify-write sets ---- */
+
+/* Tries once to take the lock at an address. Returns VME_OK if the processor has the lock now, VME_HELD if the bit was set before, and
+ * else what a read does. */
+static inline uint8_t vme_try_lock(vme_processor *p, const vme_waiter *waiter, uint8_t am, uint32_t addr)
+{
+    const vme_request request = vme_request_of(VME_MODIFY, am, addr, 1, 0);
+    vme_modify set;
+    vme_datum old = { 0, { 0 } };
+    memset(&set, 0, sizeof set);
+    set.function = VME_SET;
+    uint8_t result = vme_processor_start_modify(p, &request, &set);
+    if (result == VME_OK)
+        result = vme_finish(p, waiter);
+    if (result == VME_OK)
+        result = vme_read_bytes(p, &old);
+    return result == VME_OK && (old.bytes[0] & 0x80) ? (uint8_t)VME_HELD : result;
+}
+
+/* Takes the lock at an address, and waits until it is free. Returns VME_HELD if the waiter's limit is reached, and else what a
+ * read does. */
+static inline uint8_t vme_lock(vme_processor *p, const vme_waiter *waiter, uint8_t am, uint32_t addr)
+{
+    vme_tries tries = { 0, 0 };
+    for (;;) {
+        const uint32_t value = vme_count_value(vme_data_of(waiter));
+        const uint8_t result = vme_try_lock(p, waiter, am, addr);
+        if (result != VME_HELD || !vme_wait(waiter, vme_data_of(waiter), value, &tries))
+            return result;
+    }
+}
+
+/* Gives the lock at an address back: clears its byte. Returns what a read does. */
+static inline uint8_t vme_unlock(vme_processor *p, const vme_waiter *waiter, uint8_t am, uint32_t addr)
+{
+    const vme_datum zero = { 1, { 0 } };
+    return vme_write(p, waiter, am, addr, &zero);
+}
+
+/* ---- Mailboxes: queues of words in the memory of a board ---- */
+
+/* A mailbox: a lock byte at addr, the number of words put at 4 and taken at 8, and its words from 16. At first its 16 + 4 * slots
+ * bytes are zeros. am is a data code, and the board has width 32 and read-modify-writes. */
+typedef struct vme_mailbox {
+    uint32_t addr;  /* a multiple of 4 */
+    uint16_t slots; /* 1 or more */
+    uint8_t am;
+} vme_mailbox;
+
+static inline uint32_t vme_word_of(const vme_datum *datum)
+{
+    return (uint32_t)datum->bytes[0] << 24 | (uint32_t)datum->bytes[1] << 16 | (uint32_t)datum->bytes[2] << 8 | datum->bytes[3];
+}
+
+static inline vme_datum vme_datum_of(uint32_t word)
+{
+    const vme_datum datum = { 4, { (uint8_t)(word >> 24), (uint8_t)(word >> 16), (uint8_t)(word >> 8), (uint8_t)word } };
+    return datum;
+}
+
+/* Moves a word into a mailbox whose lock the processor has, or out of it. */
+static inline uint8_t vme_move_word(vme_processor *p, const vme_waiter *waiter, const vme_mailbox *box, int is_put, uint32_t *word)
+{
+    vme_datum datum, put = { 0, { 0 } }, taken = { 0, { 0 } };
+    uint8_t result = vme_read(p, waiter, box->am, box->addr + 4, 4, &put);
+    if (result == VME_OK)
+        result = vme_read(p, waiter, box->am, box->addr + 8, 4, &taken);
+    if (result != VME_OK)
+        return result;
+    const uint32_t words = vme_word_of(&put) - vme_word_of(&taken), count = vme_word_of(is_put ? &put : &taken);
+    const uint32_t at = box->addr + 16 + 4 * (count % box->slots);
+    if (is_put ? words >= box->slots : words == 0)
+        return is_put ? VME_FULL : VME_EMPTY;
+    if (is_put && count == 0xffffffffu)
+        return VME_SPENT;
+    datum = vme_datum_of(*word);
+    result = is_put ? vme_write(p, waiter, box->am, at, &datum) : vme_read(p, waiter, box->am, at, 4, &datum);
+    if (result != VME_OK)
+        return result;
+    *word = vme_word_of(&datum);
+    datum = vme_datum_of(count + 1);
+    return vme_write(p, waiter, box->am, box->addr + (is_put ? 4 : 8), &datum);
+}
+
+/* Takes the lock of a mailbox, moves a word, and gives the lock back, until a word has been moved. */
+static inline uint8_t vme_use_mailbox(vme_processor *p, const vme_waiter *waiter, const vme_mailbox *box, int is_put, uint32_t *word)
+{
+    vme_tries tries = { 0, 0 };
+    for (;;) {
+        const uint32_t value = vme_count_value(vme_words_of(waiter));
+        uint8_t freed, result = vme_lock(p, waiter, box->am, box->addr);
+        if (result != VME_OK)
+            return result;
+        result = vme_move_word(p, waiter, box, is_put, word);
+        if (result == VME_BUSY || result == VME_NOT_GRANTED)
+            return result;
+        freed = vme_unlock(p, waiter, box->am, box->addr);
+        if (result == VME_OK && freed == VME_OK)
+            vme_count_increment(vme_words_of(waiter));
+        if (freed != VME_OK || (result != VME_FULL && result != VME_EMPTY))
+            return freed != VME_OK ? freed : result;
+        if (!vme_wait(waiter, vme_words_of(waiter), value, &tries))
+            return result;
+    }
+}
+
+/* Puts a word into a mailbox, and waits until there is a slot. Returns VME_FULL if the waiter's limit is reached, VME_SPENT after
+ * 2^32 - 1 words, and else what vme_lock does. */
+static inline uint8_t vme_put(vme_processor *p, const vme_waiter *waiter, const vme_mailbox *box, uint32_t word)
+{
+    return vme_use_mailbox(p, waiter, box, 1, &word);
+}
+
+/* Takes the oldest word of a mailbox, and waits until there is one. Returns VME_EMPTY if the waiter's limit is reached, and else what
+ * vme_lock does. */
+static inline uint8_t vme_take(vme_processor *p, const vme_waiter *waiter, const vme_mailbox *box, uint32_t *word)
+{
+    return vme_use_mailbox(p, waiter, box, 0, word);
+}
+
+#ifdef __cplusplus
+}
+#endif
+
+#endif
