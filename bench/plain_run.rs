@@ -225,6 +225,14 @@ fn push_hex(text: &mut String, byte: u8) {
     }
 }
 
+/// Whether a row of memory is zero, sixteen bytes at once.
+fn is_zero(row: &[u8]) -> bool {
+    match <&[u8; 16]>::try_from(row) {
+        Ok(row) => *row == [0; 16],
+        Err(_) => row.iter().all(|byte| *byte == 0),
+    }
+}
+
 fn report(places: &[Place], boards: Vec<Mutex<Board>>, replies: &[Vec<Option<Reply>>]) -> String {
     let mut text = String::new();
     for (place, replies) in places.iter().zip(replies) {
@@ -250,7 +258,7 @@ fn report(places: &[Place], boards: Vec<Mutex<Board>>, replies: &[Vec<Option<Rep
         text.push('\n');
     }
     for (place, board) in places.iter().zip(&boards) {
-        for (row, bytes) in board.memory.chunks(16).enumerate().filter(|(_, row)| row.iter().any(|it| *it != 0)) {
+        for (row, bytes) in board.memory.chunks(16).enumerate().filter(|(_, row)| !is_zero(row)) {
             let _ = write!(text, "mem {} {:08x} ", place.slot, 16 * row);
             bytes.iter().for_each(|byte| _ = write!(text, "{byte:02x}"));
             text.push('\n');

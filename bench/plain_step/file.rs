@@ -2,6 +2,7 @@
 
 use crate::line::{self, Line};
 use crate::memory::{Board, Space};
+use std::borrow::Cow;
 
 pub struct File {
     pub tries: u32,
@@ -20,11 +21,11 @@ pub struct BoardTable {
 /// What is wrong with a file, in words.
 pub type Fault = String;
 
-enum Value {
+enum Value<'a> {
     Number(u32),
     Truth(bool),
-    Text(String),
-    Array(Vec<Value>),
+    Text(Cow<'a, str>),
+    Array(Vec<Value<'a>>),
 }
 
 struct Reader<'a> {
@@ -76,7 +77,7 @@ impl<'a> Reader<'a> {
         word
     }
 
-    fn value(&mut self) -> Result<Value, Fault> {
+    fn value(&mut self) -> Result<Value<'a>, Fault> {
         for quotes in ["\"\"\"", "'''", "\"", "'"] {
             if self.eats(quotes) {
                 return self.text_until(quotes).map(Value::Text);
@@ -93,7 +94,7 @@ impl<'a> Reader<'a> {
     }
 
     /// The elements of an array, with its end.
-    fn items(&mut self) -> Result<Vec<Value>, Fault> {
+    fn items(&mut self) -> Result<Vec<Value<'a>>, Fault> {
         let mut items = Vec::new();
         loop {
             self.skip_blank();
@@ -108,21 +109,26 @@ impl<'a> Reader<'a> {
         }
     }
 
-    /// The text of a string, with its end.
-    fn text_until(&mut self, quotes: &str) -> Result<String, Fault> {
+    /// The text of a string, with its end: a part of the file, or a copy of one with escapes.
+    fn text_until(&mut self, quotes: &str) -> Result<Cow<'a, str>, Fault> {
         if quotes.len() == 3 && !self.eats("\n") {
             self.eats("\r\n");
         }
-        let is_literal = quotes.starts_with('\'');
+        let end = self.text.find(quotes).ok_or("a string has no end")?;
+        let text = &self.text[..end];
+        if !quotes.starts_with('\'') && text.contains('\\') {
+            return self.text_with_escapes(quotes).map(Cow::Owned);
+        }
+        self.skip(end + quotes.len());
+        Ok(Cow::Borrowed(text))
+    }
+
+    fn text_with_escapes(&mut self, quotes: &str) -> Result<String, Fault> {
         let mut text = String::new();
         while !self.eats(quotes) {
             let next = self.text.chars().next().ok_or("a string has no end")?;
             self.skip(next.len_utf8());
-            if is_literal || next != '\\' {
-                text.push(next);
-                continue;
-            }
-            text.push(self.escaped()?);
+            text.push(if next == '\\' { self.escaped()? } else { next });
         }
         Ok(text)
     }
@@ -151,11 +157,11 @@ fn number(word: &str) -> Result<u32, Fault> {
 
 /// Keys with their values, in the order of the file.
 #[derive(Default)]
-struct Table(Vec<(String, Value)>);
+struct Table<'a>(Vec<(&'a str, Value<'a>)>);
 
-impl Table {
-    fn take(&mut self, key: &str) -> Option<Value> {
-        let at = self.0.iter().position(|(name, _)| name == key)?;
+impl<'a> Table<'a> {
+    fn take(&mut self, key: &str) -> Option<Value<'a>> {
+        let at = self.0.iter().position(|(name, _)| *name == key)?;
         Some(self.0.swap_remove(at).1)
     }
 
@@ -175,7 +181,7 @@ impl Table {
         }
     }
 
-    fn text(&mut self, key: &str, default: &str) -> Result<String, Fault> {
+    fn text(&mut self, key: &str, default: &'static str) -> Result<Cow<'a, str>, Fault> {
         match self.take(key) {
             Some(Value::Text(text)) => Ok(text),
             None => Ok(default.into()),
@@ -192,7 +198,7 @@ impl Table {
 }
 
 /// The table at the top and those of the boards.
-fn tables(text: &str) -> Result<(Table, Vec<Table>), Fault> {
+fn tables(text: &str) -> Result<(Table<'_>, Vec<Table<'_>>), Fault> {
     let mut reader = Reader { text };
     let mut top = Table::default();
     let mut boards: Vec<Table> = Vec::new();
@@ -205,7 +211,7 @@ fn tables(text: &str) -> Result<(Table, Vec<Table>), Fault> {
             boards.push(Table::default());
             continue;
         }
-        let key = reader.word().to_string();
+        let key = reader.word();
         reader.expect("=")?;
         reader.skip_spaces();
         let value = reader.value()?;
@@ -213,7 +219,7 @@ fn tables(text: &str) -> Result<(Table, Vec<Table>), Fault> {
     }
 }
 
-fn schedule(value: Option<Value>) -> Result<Vec<(u16, u32)>, Fault> {
+fn schedule(value: Option<Value<'_>>) -> Result<Vec<(u16, u32)>, Fault> {
     let pairs = match value {
         None => return Ok(Vec::new()),
         Some(Value::Array(pairs)) => pairs,
@@ -229,10 +235,10 @@ fn schedule(value: Option<Value>) -> Result<Vec<(u16, u32)>, Fault> {
     pairs.into_iter().map(pair).collect()
 }
 
-fn board(mut table: Table) -> Result<BoardTable, Fault> {
+fn board(mut table: Table<'_>) -> Result<BoardTable, Fault> {
     let slot = table.number("slot", None)? as u16;
     let level = table.number("level", Some(3))? as usize;
-    let space = match table.text("space", "a32")?.as_str() {
+    let space = match &*table.text("space", "a32")? {
         "a16" => Space::A16,
         "a24" => Space::A24,
         "a32" => Space::A32,

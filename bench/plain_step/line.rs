@@ -5,6 +5,8 @@ use crate::memory::{Bytes, Function, Space};
 const LINE_LIMIT: usize = 80;
 const BLOCK_UNIT: u64 = 256;
 const WIDE_UNIT: u64 = 2048;
+/// The words of the longest line.
+const MOST_WORDS: usize = 7;
 
 pub enum Line {
     Bus(Transfer),
@@ -75,20 +77,28 @@ fn hex_number(word: &[u8], digits: usize, fault: Fault) -> Result<u32, Fault> {
     word.iter().try_fold(0, |number, &byte| Ok(number << 4 | u32::from(hex_digit(byte).ok_or(fault)?)))
 }
 
+fn hex_byte(pair: &[u8]) -> Result<u8, Fault> {
+    let byte = |pair: &[u8]| Some(hex_digit(pair[0])? << 4 | hex_digit(pair[1])?);
+    byte(pair).ok_or(BAD_BYTES)
+}
+
 fn hex_bytes(word: &[u8]) -> Result<Vec<u8>, Fault> {
     if word.is_empty() || word.len() % 2 != 0 {
         return Err(BAD_BYTES);
     }
-    let byte = |pair: &[u8]| Some(hex_digit(pair[0])? << 4 | hex_digit(pair[1])?);
-    word.chunks_exact(2).map(|pair| byte(pair).ok_or(BAD_BYTES)).collect()
+    word.chunks_exact(2).map(hex_byte).collect()
 }
 
 fn datum(word: &[u8], fits: impl Fn(usize) -> bool) -> Result<Bytes, Fault> {
-    let bytes = hex_bytes(word)?;
-    if bytes.len() > 8 || !fits(bytes.len()) {
+    let length = word.len() / 2;
+    let mut bytes = [0; 8];
+    if !(1..=bytes.len()).contains(&length) || word.len() % 2 != 0 || !fits(length) {
         return Err(BAD_BYTES);
     }
-    Ok(Bytes::new(&bytes))
+    for (byte, pair) in bytes.iter_mut().zip(word.chunks_exact(2)) {
+        *byte = hex_byte(pair)?;
+    }
+    Ok(Bytes::new(&bytes[..length]))
 }
 
 fn length(word: &[u8], lengths: &[usize]) -> Result<usize, Fault> {
@@ -203,16 +213,19 @@ fn parse(line: &[u8]) -> Result<Option<Line>, Fault> {
     if line.first() == Some(&b'#') {
         return Ok(None);
     }
-    let words: Vec<&[u8]> = line.split(|&byte| byte == b' ').filter(|word| !word.is_empty()).collect();
+    let mut array: [&[u8]; MOST_WORDS + 1] = [b""; MOST_WORDS + 1];
+    let found = line.split(|&byte| byte == b' ').filter(|word| !word.is_empty());
+    let count = array.iter_mut().zip(found).map(|(place, word)| *place = word).count();
+    let words = &array[..count];
     if words.is_empty() {
         return Ok(None);
     }
-    if words.len() != word_count(&words)? {
+    if words.len() != word_count(words)? {
         return Err(WORD_COUNT);
     }
     match words[0] {
-        b"lr" | b"lw" | b"lm" => local(&words).map(|local| Some(Line::Local(local))),
-        _ => bus(&words).map(Some),
+        b"lr" | b"lw" | b"lm" => local(words).map(|local| Some(Line::Local(local))),
+        _ => bus(words).map(Some),
     }
 }
 

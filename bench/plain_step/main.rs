@@ -3,8 +3,7 @@
 //!
 //! usage: plain_step [--events] FILE
 //!
-//! `--events` prints the number of events instead. `--cfg tuned` replaces the formatting of bytes
-//! through `fmt` by a hand-made one.
+//! `--events` prints the number of events instead.
 
 mod file;
 mod line;

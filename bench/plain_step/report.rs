@@ -6,13 +6,7 @@ use std::io::{self, Write};
 
 const ROW: usize = 16;
 
-#[cfg(not(tuned))]
-fn hex(output: &mut impl Write, bytes: &[u8]) -> io::Result<()> {
-    bytes.iter().try_for_each(|byte| write!(output, "{byte:02x}"))
-}
-
-/// The digits of sixteen bytes at once.
-#[cfg(tuned)]
+/// The digits of sixteen bytes at once, by a table and not through `fmt`.
 fn hex(output: &mut impl Write, bytes: &[u8]) -> io::Result<()> {
     const DIGITS: &[u8; 16] = b"0123456789abcdef";
     let mut digits = [0; 2 * ROW];
@@ -51,9 +45,17 @@ fn counts(output: &mut impl Write, slot: u16, board: &Board) -> io::Result<()> {
     output.write_all(b"\n")
 }
 
+/// Whether a row of memory is zero, sixteen bytes at once.
+fn is_zero(row: &[u8]) -> bool {
+    match <&[u8; ROW]>::try_from(row) {
+        Ok(row) => *row == [0; ROW],
+        Err(_) => row.iter().all(|byte| *byte == 0),
+    }
+}
+
 fn memory(output: &mut impl Write, slot: u16, board: &Board) -> io::Result<()> {
     for (at, row) in board.bytes.chunks(ROW).enumerate() {
-        if row.iter().any(|&byte| byte != 0) {
+        if !is_zero(row) {
             write!(output, "mem {slot} {:08x} ", at * ROW)?;
             hex(output, row)?;
             output.write_all(b"\n")?;

@@ -1,0 +1,49 @@
+"""The rows of bench/all that other commands of this folder measure, from what they print."""
+
+import os
+import re
+import shutil
+import subprocess
+from pathlib import Path
+
+HERE = Path(__file__).resolve().parent
+OUTCOMES = ["three with six lines", "three boards of 64 KiB"]
+OUTCOME = re.compile(r"(.*): \d+ outcomes?, (\d+) states?, ([\d.]+) ms, .* a second, ([\d.]+) MiB, .*")
+WASM = re.compile(r"([^:]*): (\d+) ms as WebAssembly, (\d+) for Linux, ([\d.]+) of it \((.*)\)")
+CALL = re.compile(r"( *)(.*\S) +([\d.]+)")
+
+
+def printed(words, **environment):
+    """The lines that a command prints; none if it fails."""
+    ran = subprocess.run(words, env={**os.environ, **environment}, stdout=subprocess.PIPE, text=True, check=False)
+    return ran.stdout.splitlines() if ran.returncode == 0 else []
+
+
+def outcomes(bendrika):
+    """Rows of `bendrika outcomes`: the least processor time, and the states a second in it."""
+    for line in printed([HERE / "outcomes", "3", *OUTCOMES], BENDRIKA=bendrika):
+        name, states, took, memory = OUTCOME.fullmatch(line).groups()
+        said = f"{name}: {int(states):,} states, {int(states) / float(took):.0f} thousand a second"
+        yield f"`outcomes`: {said}", "", [f"{took} of a processor", "", "", "", memory, ""]
+
+
+def library():
+    """Rows of calls of the libraries for C that have a peer: what the peer takes is their figure over the ratio."""
+    found = []
+    for line in printed([HERE / "library"]):
+        if line.startswith("call "):
+            continue
+        inset, name, figure = CALL.fullmatch(line).groups()
+        if not inset:
+            found.append((name, figure))
+            continue
+        (peer, _), (name, taken) = found[-2:]
+        cells = ["", "", f"{taken} a call", figure] if name.startswith("instructions") else [f"{taken} ns", figure, "", ""]
+        yield f"`library`: `{name}`", peer, [*cells, "", ""]
+
+
+def wasm(runs):
+    """Rows of the programs of dist/ as WebAssembly in node, in processor time, beside those for Linux."""
+    for line in printed(["node", HERE / "wasm.mjs", str(runs)]) if shutil.which("node") else []:
+        name, taken, _, ratio, _ = WASM.fullmatch(line).groups()
+        yield f"`wasm`: {name}", "for Linux", [f"{taken} of a processor", ratio, "", "", "", ""]
