@@ -9,6 +9,8 @@ VARIABLE = re.compile(r"^\$var \w+ (\d+) (\S+) (\S+)", re.MULTILINE)
 LANES = ("d31_24", "d23_16", "d15_08", "d07_00")
 # A code that is reserved, and one that is user-defined.
 UNKNOWN_CODES = ("100011", "010000")
+# The codes of eight-byte blocks, whose address lines carry data.
+WIDE = ("000000", "001000", "001100", "111000", "111100")
 ANY_CODES = {f"J{number}" for number in range(1, 25)}
 
 
@@ -345,7 +347,20 @@ def cut_end(wave, it, rng):
             del wave.changes[time]
 
 
-LEGAL = [strobes_apart, strobes_rise_apart, later_answer, idle_lines, idle_lanes, written_again, cut_end]
+def early_address_strobe(wave, it, rng):
+    """AS* rises with the last answer."""
+    for time in [time for time in sorted(wave.changes) if it.answer < time <= it.end and "as_n" in wave.changes[time]][:1]:
+        wave.move("as_n", time, it.answer)
+
+
+def pipelined(wave, it, rng):
+    """The address of the next transfer comes after the last answer."""
+    value = wave.at("a", it.answer)
+    if it.ends and set(value) <= {"0", "1"} and wave.at("am", it.opens) not in WIDE:
+        wave.set("a", it.answer + 1, flipped(value, rng.randrange(30)))
+
+
+LEGAL = [early_address_strobe, pipelined, strobes_apart, strobes_rise_apart, later_answer, idle_lines, idle_lanes, written_again, cut_end]
 
 
 def errors(text: str, seed: int, places: int) -> Iterator[tuple[str, str, set[str], bool]]:

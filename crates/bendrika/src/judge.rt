@@ -14,12 +14,21 @@ use vme_judge::{
 use vme_line_map::{LineMap, LinesFault, default_lines, read_lines};
 use vme_script::ConfigFault;
 
+/// What the words leave out of a judgement.
+#[derive(Drop)]
+struct Limits {
+    open: Vec<OpenBytes>,
+    ignored: u64,
+    timeout: Option<u64>,
+}
+
 /// Judges the trace that the words name, by the boards of their file.
 pub(crate) fn judged(rt: &HostRuntime, words: &ArgMatches<'_>) -> Result<Status, Fault> {
     let file = words.get_str("FILE").unwrap_or("");
     let trace = words.get_str("TRACE").unwrap_or("");
     if file == STANDARD_INPUT && trace == STANDARD_INPUT {
-        return Ok(wrong(rt, "only one of the two is standard input"));
+        wrong(rt, "only one of the two is standard input");
+        return Ok(Status::WrongWords);
     }
     let input = input_of(rt, file, FILE_LIMIT)?;
     let Some(bytes) = bytes_of(rt, name_of(file), input)? else {
@@ -30,20 +39,8 @@ pub(crate) fn judged(rt: &HostRuntime, words: &ArgMatches<'_>) -> Result<Status,
         Err(ConfigFault::OutOfMemory) => return Err(Fault::Memory),
         Err(_) => return refuse(rt, name_of(file), bytes.as_slice()),
     };
-    let Some(open) = open_of(rt, words, boards.as_slice())? else {
-        return Ok(wrong(
-            rt,
-            "--open is SLOT or SLOT:A-B, with a board of FILE in the slot",
-        ));
-    };
-    let Some(ignored) = ignored_of(words) else {
-        return Ok(wrong(
-            rt,
-            "--ignore-am is XX,.., codes of two hexadecimal digits, 00 to 3f",
-        ));
-    };
-    let Some(timeout) = timeout_of(words) else {
-        return Ok(wrong(rt, "--timeout is a number below 2^64"));
+    let Some(limits) = limits_of(rt, words, boards.as_slice())? else {
+        return Ok(Status::WrongWords);
     };
     let lines = match lines_of(rt, words, boards.as_slice())? {
         Ok(lines) => lines,
@@ -59,9 +56,9 @@ pub(crate) fn judged(rt: &HostRuntime, words: &ArgMatches<'_>) -> Result<Status,
         log: words.get_flag("log"),
         json: words.get_flag("json"),
         quiet: words.get_flag("quiet"),
-        ignored,
-        timeout,
-        open: open.as_slice(),
+        ignored: limits.ignored,
+        timeout: limits.timeout,
+        open: limits.open.as_slice(),
     };
     if trace == STANDARD_INPUT {
         return judge_input(rt, &options, &lines, boards.as_slice(), rt.reader());
@@ -76,10 +73,40 @@ pub(crate) fn judged(rt: &HostRuntime, words: &ArgMatches<'_>) -> Result<Status,
     }
 }
 
+/// What the words leave out; `None` if a word is wrong, which is reported.
+fn limits_of(
+    rt: &HostRuntime,
+    words: &ArgMatches<'_>,
+    boards: &[Board],
+) -> Result<Option<Limits>, Fault> {
+    let Some(open) = open_of(rt, words, boards)? else {
+        wrong(
+            rt,
+            "--open is SLOT or SLOT:A-B, with a board of FILE in the slot",
+        );
+        return Ok(None);
+    };
+    let Some(ignored) = ignored_of(words) else {
+        wrong(
+            rt,
+            "--ignore-am is XX,.., codes of two hexadecimal digits, 00 to 3f",
+        );
+        return Ok(None);
+    };
+    let Some(timeout) = timeout_of(words) else {
+        wrong(rt, "--timeout is a number below 2^64");
+        return Ok(None);
+    };
+    Ok(Some(Limits {
+        open,
+        ignored,
+        timeout,
+    }))
+}
+
 /// Reports wrong words.
-fn wrong(rt: &HostRuntime, why: &str) -> Status {
+fn wrong(rt: &HostRuntime, why: &str) {
     let _ = eprintln!(rt; "bendrika: {why}");
-    Status::WrongWords
 }
 
 /// Judges an opened trace.

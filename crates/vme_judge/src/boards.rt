@@ -38,7 +38,7 @@ fn refusal(fault: DocumentFault) -> ConfigFault {
 fn listed(alloc: Global, file: &FileTable<'_>) -> Result<Vec<Board>, ConfigFault> {
     let mut boards = Vec::new(alloc);
     for table in file.boards.iter() {
-        if let Some(board) = board(table) {
+        if let Some(board) = board_of(table) {
             boards.push(board).map_err(|_| ConfigFault::OutOfMemory)?;
         }
     }
@@ -46,7 +46,7 @@ fn listed(alloc: Global, file: &FileTable<'_>) -> Result<Vec<Board>, ConfigFault
 }
 
 /// The board of a table, whose words are those of a lawful file.
-fn board(table: &BoardTable<'_>) -> Option<Board> {
+fn board_of(table: &BoardTable<'_>) -> Option<Board> {
     let slot = u8::try_from(table.slot).ok()?;
     let entry = Entry {
         space: space_named(table.range.space).ok()?,

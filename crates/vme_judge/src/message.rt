@@ -91,11 +91,10 @@ fn write_answer(
     let Some(slot) = slot else {
         return to.push_str(text);
     };
-    write!(to, "the board of slot {slot}")?;
     if wrong.rule != Rule::WrongBytes {
-        return write!(to, ": {text}");
+        return write!(to, "slot {slot}: {text}");
     }
-    to.push_str(" reads ")?;
+    write!(to, "the board of slot {slot} reads ")?;
     write_bytes(asked, to)?;
     let offset = wrong.offset;
     write!(to, " at offset {offset:08x}, where its memory has ")?;

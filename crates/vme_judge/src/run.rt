@@ -10,7 +10,7 @@ use vme_bus_log::{LogEntry, LogReader};
 use vme_line_map::LineMap;
 use vme_vcd_reader::{Step, VcdFault, VcdReader};
 
-/// The form of a trace, which its first byte that is no blank tells.
+/// The form of a trace, by its first byte that is no blank.
 #[derive(Clone, Copy, Debug, PartialEq, Eq)]
 pub(crate) enum Kind {
     Unknown,

@@ -1,5 +1,5 @@
 -- The levels of a line, as simulators write them: IEEE 1364-2005, clause 18, and those of VHDL.
-use Rattle.std.specs.Prelude.{ℕ, Bool, ◌==◌, ◌||◌, if◌then◌else◌, Option, None, Some}
+use Rattle.std.specs.Prelude.{ℕ, ◌==◌, ◌||◌, if◌then◌else◌, Option, None, Some}
 use Rattle.vme_vcd_reader.specs.declared.bits.Level.{Level}
 use Rattle.vme_vcd_reader.specs.declared.bits.Level.TheVariants.{Low, High, Free, Undefined}
 

@@ -70,7 +70,7 @@ impl Header {
         }
     }
 
-    /// Makes room for what is found of each wanted variable.
+    /// Allocates an entry for each wanted variable.
     pub(crate) fn begin(&mut self, map: &LineMap) -> Result<(), VcdFault> {
         self.matching.begin(map)
     }

@@ -1,6 +1,6 @@
 //! The identifiers of variables, as numbers.
 
-/// No identifier: one of more than nine characters is not told apart from others.
+/// No identifier: that of all with more than nine characters.
 pub(crate) const NO_IDENTIFIER: u64 = u64::MAX;
 
 /// The greatest number to which a further character is appended: 95^9 and more stay below 2^64.

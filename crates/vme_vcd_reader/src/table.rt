@@ -53,7 +53,7 @@ impl Table {
         }
     }
 
-    /// Makes room for the places.
+    /// Allocates the places.
     pub(crate) fn begin(&mut self) -> Result<(), AllocError> {
         for _ in 0..PLACES {
             self.places.push(NONE)?;
@@ -82,7 +82,7 @@ impl Table {
                     return Ok(true);
                 }
             }
-            place = (place + 1) % PLACES;
+            place = place.wrapping_add(1) % PLACES;
         }
         Ok(false)
     }
@@ -101,7 +101,7 @@ impl Table {
             if entry.identifier == identifier {
                 return entry.first;
             }
-            place = (place + 1) % PLACES;
+            place = place.wrapping_add(1) % PLACES;
         }
         END
     }

@@ -21,7 +21,7 @@ impl Word {
         }
     }
 
-    /// Appends a byte, if there is room.
+    /// Appends a byte, unless the word is full.
     pub(crate) fn push(&mut self, byte: u8) {
         if self.bytes.is_full() {
             self.is_cut = true;

@@ -323,7 +323,7 @@ pub(crate) static JUDGEMENTS: [Text; 21] = [
                 head: "",
                 tail: "n=0 am=09 a=00000000 ds1=0 ds0=0 a01=0 lword=0 write=1 data=-------- berr\n",
             },
-            shows: "trace:1: error: the board of slot 1: BERR* answers, where a board answers this cycle [J21]",
+            shows: "trace:1: error: slot 1: BERR* answers, where a board answers this cycle [J21]",
         }),
     },
     Text {
@@ -353,14 +353,14 @@ pub(crate) static JUDGEMENTS: [Text; 21] = [
         help: "If something that the trace does not show may write there, as a local port, \
             add `--open SLOT`.",
         example: Some(Example {
-            brief: "two reads of one word",
+            brief: "two reads of one byte",
             input: Input::Trace {
                 head: "",
                 tail: "\
-n=0 am=09 a=00000000 ds1=0 ds0=0 a01=0 lword=0 write=1 data=00000001 dtack\n\
-n=0 am=09 a=00000000 ds1=0 ds0=0 a01=0 lword=0 write=1 data=00000002 dtack\n",
+n=0 am=09 a=00000000 ds1=1 ds0=0 a01=0 lword=1 write=1 data=------01 dtack\n\
+n=0 am=09 a=00000000 ds1=1 ds0=0 a01=0 lword=1 write=1 data=------02 dtack\n",
             },
-            shows: "trace:2: error: the board of slot 1 reads 00000002 at offset 00000000, where its memory has 00000001 [J23]",
+            shows: "trace:2: error: the board of slot 1 reads 02 at offset 00000001, where its memory has 01 [J23]",
         }),
     },
     Text {
@@ -380,7 +380,7 @@ n=0 am=09 a=00000000 ds1=0 ds0=0 a01=0 lword=0 write=1 data=00000000 dtack\n\
 lp slot=1 w 00000000 00000005\n\
 n=1 am=09 a=00000000 ds1=0 ds0=0 a01=0 lword=0 write=0 data=00000001 dtack\n",
             },
-            shows: "trace:3: error: the board of slot 1: a local write comes between the halves of a read-modify-write [J24]",
+            shows: "trace:3: error: slot 1: a local write comes between the halves of a read-modify-write [J24]",
         }),
     },
 ];
