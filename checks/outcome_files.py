@@ -49,16 +49,16 @@ def orders(counts):
 
 # Files with the numbers of their outcomes and states, and, if it is the same for each outcome, of its turns.
 FILES = {
-    "buffering": (BUFFERING, 3, 41, 8),
+    "buffering": (BUFFERING, 3, 13, 8),
     "rotating": (ROTATING, 3, None, None),
     "waiting": (WAITING, 3, None, None),
     "torn": (TORN, 4, 25, None),
-    "lost": (LOST, 3, 21, None),
+    "lost": (LOST, 3, 9, None),
     "idle": (IDLE, 1, 1, 0),
     # Attempts that fail are not counted: the same states with 2 tries and with 300. With as many lines as tries they are.
     "a lock, 2 tries": (locks(2), 6, 249, None),
     "a lock, 300 tries": (locks(300), 6, 249, None),
-    "a mailbox, 1 try": (mailbox(1), 4, 171, None),
+    "a mailbox, 1 try": (mailbox(1), 4, 33, None),
     "a mailbox, 3 tries": (mailbox(3), 4, 192, None),
     "a mailbox, 300 tries": (mailbox(300), 4, 192, None),
     "four counters to 6": (counters(4, 6), 1, 2401, 24),
@@ -77,7 +77,7 @@ TEXT = """schedule = [[1, 4], [2, 4]]
 mem 1 00000000 01000000000000000000000000000000
 mem 2 00000000 01000000000000000000000000000000
 
-schedule = [[2, 3], [1, 1], [2, 1], [1, 3]]
+schedule = [[2, 4], [1, 4]]
 1:1 done
 1:2 read 01
 2:1 done
@@ -85,7 +85,7 @@ schedule = [[2, 3], [1, 1], [2, 1], [1, 3]]
 mem 1 00000000 01000000000000000000000000000000
 mem 2 00000000 01000000000000000000000000000000
 
-schedule = [[1, 2], [2, 1], [1, 2], [2, 3]]
+schedule = [[1, 1], [2, 1], [1, 3], [2, 3]]
 1:1 done
 1:2 read 01
 2:1 done
@@ -94,8 +94,8 @@ mem 1 00000000 01000000000000000000000000000000
 mem 2 00000000 01000000000000000000000000000000
 
 never 1:2 read 00; 2:2 read 00: holds
-always 2:2 read 01: fails, schedule = [[2, 3], [1, 1], [2, 1], [1, 3]]
-3 outcomes, 41 states
+always 2:2 read 01: fails, schedule = [[2, 4], [1, 4]]
+3 outcomes, 13 states
 """
 NEVER, ALWAYS = "--never", "--always"
 BOTH = [NEVER, "1:2 read 00; 2:2 read 00", ALWAYS, " 2:2 read 01 "]
