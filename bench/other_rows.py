@@ -23,7 +23,7 @@ def outcomes(bendrika):
     """Rows of `bendrika outcomes`: the least processor time, and the states a second in it."""
     for line in printed([HERE / "outcomes", "3", *OUTCOMES], BENDRIKA=bendrika):
         name, states, took, memory = OUTCOME.fullmatch(line).groups()
-        said = f"{name}: {int(states):,} states, {int(states) / float(took):.0f} thousand a second"
+        said = f"{name}: {int(states):,} states, {int(states) / max(float(took), 0.1):.0f} thousand a second"
         yield f"`outcomes`: {said}", "", [f"{took} of a processor", "", "", "", memory, ""]
 
 
@@ -43,7 +43,9 @@ def library():
 
 
 def wasm(runs):
-    """Rows of the programs of dist/ as WebAssembly in node, in processor time, beside those for Linux."""
-    for line in printed(["node", HERE / "wasm.mjs", str(runs)]) if shutil.which("node") else []:
-        name, taken, _, ratio, _ = WASM.fullmatch(line).groups()
-        yield f"`wasm`: {name}", "for Linux", [f"{taken} of a processor", ratio, "", "", "", ""]
+    """One row of the programs of dist/ as WebAssembly in node, in processor time, beside those for Linux."""
+    lines = printed(["node", HERE / "wasm.mjs", str(runs)]) if shutil.which("node") else []
+    if lines:
+        names, taken, _, ratios, _ = zip(*(WASM.fullmatch(line).groups() for line in lines))
+        cells = [f"{', '.join(taken)} of a processor", ", ".join(ratios), "", "", "", ""]
+        yield f"`wasm`: {', '.join(names)}", "for Linux", cells

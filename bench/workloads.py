@@ -75,6 +75,12 @@ class Workload:
         return f", {self.size / best / 1e3:.0f} MB/s, {1e6 * instructions / self.events:.0f} instructions an event"
 
 
+def has_systemc():
+    """Whether the headers of SystemC are installed."""
+    how = {"input": b"#include <systemc>\n", "capture_output": True}
+    return subprocess.run(["g++", "-E", "-x", "c++", "-"], check=False, **how).returncode == 0
+
+
 def boards(count):
     return "1 board" if count == 1 else f"{count} boards"
 
@@ -92,7 +98,7 @@ def generated(folder, script, kind):
 
 
 def programs(folder, vme, bendrika, built):
-    """The name of each workload and what makes it, in the order of the table. `built` has the peers."""
+    """The name of each workload and what makes it, in the order of the table. `built` has the peers by name."""
     yield from of_cycles(folder, vme, built)
     yield from of_step(folder, vme, built)
     yield from of_run(folder, vme, built)
@@ -114,7 +120,7 @@ def of_step(folder, vme, built):
         return Workload(row, case, [vme, "step", path], {"plain_step": [built["plain_step"], path], **dict(peers)})
 
     def awaited(count):
-        systemc = {"systemc": [built["systemc"], str(count), str(READS // count)]} if "systemc" in built else {}
+        systemc = {"systemc": [built["systemc"], str(count), str(READS // count)]} if has_systemc() else {}
         path = written(folder, f"await-{count}", awaiting(count, READS // count))
         return make("`step`, an `await` not met", boards(count), path, systemc)
 
