@@ -8,7 +8,7 @@ import time
 from pathlib import Path
 from statistics import median
 
-from run_files import COUNTS, awaiting, configuration, forms, locking, reading_blocks, refused, silent
+from run_files import awaiting, configuration, forms, locking, reading_blocks, refused, silent
 
 HERE = Path(__file__).resolve().parent
 READS = 300_000
@@ -16,6 +16,8 @@ READS = 300_000
 TRACED_READS = 30_000
 MIB = 1 << 20
 OWN = "own"
+# The numbers of boards on which processors add; compare_run has one more.
+COUNTS = [1, 4, 21]
 
 
 class Workload:
@@ -44,9 +46,9 @@ class Workload:
         own = self.end(self.commands[OWN])
         # A line that is not met or is refused ends `step` and `run` with 1.
         if own[0] not in ((0,) if self.events else (0, 1)):
-            return f"{self.row} {self.case}: ends with status {own[0]}"
+            return f"{self.row}: {self.case}: ends with status {own[0]}"
         others = [name for name, command in self.commands.items() if name != OWN and self.end(command) != own]
-        return f"{self.row} {self.case}: {others[0]} ends otherwise, or prints another report" if others else ""
+        return f"{self.row}: {self.case}: {others[0]} ends otherwise, or prints another report" if others else ""
 
     def times(self, runs):
         """The best and the median of each, in milliseconds."""
