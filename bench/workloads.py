@@ -15,6 +15,8 @@ READS = 300_000
 # Of the reads above, those that a trace has: callgrind takes a second for 3 MB of it.
 TRACED_READS = 30_000
 MIB = 1 << 20
+# Once the runs of a workload have taken so many seconds, no further one is begun: beside other work threads may take minutes.
+LONGEST = 60
 OWN = "own"
 # The numbers of boards on which processors add; compare_run has one more.
 COUNTS = [1, 4, 21]
@@ -53,7 +55,11 @@ class Workload:
     def times(self, runs):
         """The best and the median of each, in milliseconds."""
         taken = {name: [] for name in self.commands}
-        for _ in range(runs):
+        end = time.monotonic() + LONGEST
+        for done in range(runs):
+            if done > 0 and time.monotonic() > end:
+                print(f"all: {self.row}: {self.case}: {done} runs alone in {LONGEST} s", file=sys.stderr)
+                break
             for name, command in self.commands.items():
                 taken[name].append(1e3 * self.run(command))
         return {name: (min(all_of), median(all_of)) for name, all_of in taken.items()}
