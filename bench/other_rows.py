@@ -7,9 +7,10 @@ import subprocess
 from pathlib import Path
 
 HERE = Path(__file__).resolve().parent
-OUTCOMES = ["three with six lines", "three boards of 64 KiB"]
+OUTCOMES = ["three with six lines"]
 OUTCOME = re.compile(r"(.*): \d+ outcomes?, (\d+) states?, ([\d.]+) ms, .* a second, ([\d.]+) MiB, .*")
 WASM = re.compile(r"([^:]*): (\d+) ms as WebAssembly, (\d+) for Linux, ([\d.]+) of it \((.*)\)")
+MULTIPLE = re.compile(r"as a multiple of (the one |those )?")
 CALL = re.compile(r"( *)(.*\S) +([\d.]+)")
 
 
@@ -23,27 +24,33 @@ def outcomes(bendrika):
     """Rows of `bendrika outcomes`: the least processor time, and the states a second in it."""
     for line in printed([HERE / "outcomes", "3", *OUTCOMES], BENDRIKA=bendrika):
         name, states, took, memory = OUTCOME.fullmatch(line).groups()
-        said = f"{name}: {int(states):,} states, {int(states) / float(took):.0f} thousand a second"
+        said = f"{name}: {int(states):,} states, {int(states) / max(float(took), 0.1):.0f} thousand a second"
         yield f"`outcomes`: {said}", "", [f"{took} of a processor", "", "", "", memory, ""]
 
 
 def library():
-    """Rows of calls of the libraries for C that have a peer: what the peer takes is their figure over the ratio."""
-    found = []
+    """Rows of calls of the libraries for C that have a peer, one for each kind of peer."""
+    calls, kinds = [], {}
     for line in printed([HERE / "library"]):
         if line.startswith("call "):
             continue
         inset, name, figure = CALL.fullmatch(line).groups()
-        if not inset:
-            found.append((name, figure))
-            continue
-        (peer, _), (name, taken) = found[-2:]
-        cells = ["", "", f"{taken} a call", figure] if name.startswith("instructions") else [f"{taken} ns", figure, "", ""]
-        yield f"`library`: `{name}`", peer, [*cells, "", ""]
+        if inset:
+            kinds.setdefault(name, []).append((*calls[-1], figure))
+        else:
+            calls.append((f"`{name}`", figure))
+    for kind, found in kinds.items():
+        names, taken, ratios = map(", ".join, zip(*found))
+        cells = [f"{taken} ns", ratios, "", ""]
+        if names.startswith("`instructions"):
+            cells = ["", "", f"{taken} a call", ratios]
+        yield f"`library`: {names}", MULTIPLE.sub("", kind), [*cells, "", ""]
 
 
 def wasm(runs):
-    """Rows of the programs of dist/ as WebAssembly in node, in processor time, beside those for Linux."""
-    for line in printed(["node", HERE / "wasm.mjs", str(runs)]) if shutil.which("node") else []:
-        name, taken, _, ratio, _ = WASM.fullmatch(line).groups()
-        yield f"`wasm`: {name}", "for Linux", [f"{taken} of a processor", ratio, "", "", "", ""]
+    """One row of the programs of dist/ as WebAssembly in node, in processor time, beside those for Linux."""
+    lines = printed(["node", HERE / "wasm.mjs", str(runs)]) if shutil.which("node") else []
+    if lines:
+        names, taken, _, ratios, _ = zip(*(WASM.fullmatch(line).groups() for line in lines))
+        cells = [f"{', '.join(taken)} of a processor", ", ".join(ratios), "", "", "", ""]
+        yield f"`wasm`: {', '.join(names)}", "for Linux", cells

@@ -1,7 +1,7 @@
 //! Runs the scripts of a configuration file, each on a thread of its own, and prints the report, as
 //! `vme run` does: a `Mutex` for each board and one for the arbiter. It knows boards of one level
 //! and lines `m 09 ADDRESS 4 add NUMBER`, `lm OFFSET 4 add NUMBER`, `await 09 ADDRESS BYTES` and
-//! `br 0b ADDRESS LENGTH COUNT` alone; with the code 08, which is reserved, the first is refused. A block locks its board for
+//! `br 0b ADDRESS LENGTH COUNT` alone; with the code 08, which is for blocks, the first is refused. A block locks its board for
 //! each datum. `tries` may stand before the boards.
 //!
 //! usage: plain_run FILE
@@ -246,7 +246,7 @@ fn report(places: &[Place], boards: Vec<Mutex<Board>>, replies: &[Vec<Option<Rep
                 Some(Reply::Old(old)) => writeln!(text, "{}:{number} old {old:08x}", place.slot),
                 Some(Reply::Met) => writeln!(text, "{}:{number} met", place.slot),
                 Some(Reply::Timeout) => writeln!(text, "{}:{number} timeout", place.slot),
-                Some(Reply::Refused) => writeln!(text, "{}:{number} refused K1", place.slot),
+                Some(Reply::Refused) => writeln!(text, "{}:{number} refused K5", place.slot),
                 None => writeln!(text, "{}:{number} berr 0", place.slot),
             };
         }

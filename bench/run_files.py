@@ -66,8 +66,8 @@ def reading_blocks(count):
 
 
 def refused(count):
-    """A file of boards whose processors each have lines that are refused, so that no event happens."""
-    return configuration(count, lambda board: f"m 08 {OFFSET:08x} 4 add 00000001\n" * LINES)
+    """A file of boards whose processors each have lines that are refused, all of them in their one turn: no event happens."""
+    return "rounds = 1\n" + configuration(count, lambda board: f"m 08 {OFFSET:08x} 4 add 00000001\n" * LINES)
 
 
 def silent(count, size):

@@ -8,14 +8,18 @@ import time
 from pathlib import Path
 from statistics import median
 
-from run_files import COUNTS, awaiting, configuration, forms, locking, reading_blocks, refused, silent
+from run_files import awaiting, configuration, forms, locking, reading_blocks, refused, silent
 
 HERE = Path(__file__).resolve().parent
 READS = 300_000
 # Of the reads above, those that a trace has: callgrind takes a second for 3 MB of it.
 TRACED_READS = 30_000
 MIB = 1 << 20
+# Once the runs of a workload have taken so many seconds, no further one is begun: beside other work threads may take minutes.
+LONGEST = 60
 OWN = "own"
+# The numbers of boards on which processors add; compare_run has one more.
+COUNTS = [1, 4, 21]
 
 
 class Workload:
@@ -44,14 +48,18 @@ class Workload:
         own = self.end(self.commands[OWN])
         # A line that is not met or is refused ends `step` and `run` with 1.
         if own[0] not in ((0,) if self.events else (0, 1)):
-            return f"{self.row} {self.case}: ends with status {own[0]}"
+            return f"{self.row}: {self.case}: ends with status {own[0]}"
         others = [name for name, command in self.commands.items() if name != OWN and self.end(command) != own]
-        return f"{self.row} {self.case}: {others[0]} ends otherwise, or prints another report" if others else ""
+        return f"{self.row}: {self.case}: {others[0]} ends otherwise, or prints another report" if others else ""
 
     def times(self, runs):
         """The best and the median of each, in milliseconds."""
         taken = {name: [] for name in self.commands}
-        for _ in range(runs):
+        end = time.monotonic() + LONGEST
+        for done in range(runs):
+            if done > 0 and time.monotonic() > end:
+                print(f"all: {self.row}: {self.case}: {done} runs alone in {LONGEST} s", file=sys.stderr)
+                break
             for name, command in self.commands.items():
                 taken[name].append(1e3 * self.run(command))
         return {name: (min(all_of), median(all_of)) for name, all_of in taken.items()}
@@ -75,6 +83,12 @@ class Workload:
         return f", {self.size / best / 1e3:.0f} MB/s, {1e6 * instructions / self.events:.0f} instructions an event"
 
 
+def has_systemc():
+    """Whether the headers of SystemC are installed."""
+    how = {"input": b"#include <systemc>\n", "capture_output": True}
+    return subprocess.run(["g++", "-E", "-x", "c++", "-"], check=False, **how).returncode == 0
+
+
 def boards(count):
     return "1 board" if count == 1 else f"{count} boards"
 
@@ -92,7 +106,7 @@ def generated(folder, script, kind):
 
 
 def programs(folder, vme, bendrika, built):
-    """The name of each workload and what makes it, in the order of the table. `built` has the peers."""
+    """The name of each workload and what makes it, in the order of the table. `built` has the peers by name."""
     yield from of_cycles(folder, vme, built)
     yield from of_step(folder, vme, built)
     yield from of_run(folder, vme, built)
@@ -114,7 +128,7 @@ def of_step(folder, vme, built):
         return Workload(row, case, [vme, "step", path], {"plain_step": [built["plain_step"], path], **dict(peers)})
 
     def awaited(count):
-        systemc = {"systemc": [built["systemc"], str(count), str(READS // count)]} if "systemc" in built else {}
+        systemc = {"systemc": [built["systemc"], str(count), str(READS // count)]} if has_systemc() else {}
         path = written(folder, f"await-{count}", awaiting(count, READS // count))
         return make("`step`, an `await` not met", boards(count), path, systemc)
 
