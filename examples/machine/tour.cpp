@@ -78,8 +78,7 @@ int main()
         std::printf("without a processor: %s\n", refused.what());
     }
     machine[1] = std::move(moved);
-    const vme::report left = machine.close();
-    std::printf("the last board has %zu bytes, and its word is %u\n", left.memories[3].size(), left.memories[3][18] * 256u + left.memories[3][19]);
+    machine.close();
     try {
         machine[0].local_read(0, 4);
     } catch (const vme::error &refused) {
