@@ -18,7 +18,6 @@ struct object {
     uint32_t taken;
     uint32_t size;
     uint8_t *bytes;
-    uint64_t steps;
 };
 
 struct machine {
@@ -163,23 +162,12 @@ static uint8_t are_all(vme_processor *all, size_t count)
     return VME_OK;
 }
 
-uint8_t vme_machine_close(vme_processor *all, size_t count, uint64_t *steps, size_t steps_count, uint8_t *bytes, size_t size)
+uint8_t vme_machine_close(vme_processor *all, size_t count)
 {
     uint8_t result = are_all(all, count);
-    size_t done = 0;
     if (result != VME_OK)
         return result;
     struct machine *machine = of(&all[0])->machine;
-    for (size_t i = 0; i < count; i++) {
-        const struct object *board = &machine->boards[i];
-        const size_t n = board->size < size - done ? board->size : size - done;
-        if (i < steps_count)
-            steps[i] = board->steps;
-        memcpy(bytes + done, board->bytes, n);
-        done += n;
-    }
-    if (count < steps_count)
-        steps[count] = machine->bus.steps;
     for (size_t i = 0; i < count; i++) {
         rattle_dealloc(of(&all[i]));
         all[i].full = 0;
@@ -213,7 +201,6 @@ uint8_t vme_processor_try_local_read(vme_processor *p, uint32_t at, uint8_t n, v
     if (!take(board))
         return VME_BUSY;
     uint8_t result = vme_local_read(board->bytes, board->size, at, n, out);
-    board->steps++;
     give(board);
     return result;
 }
@@ -227,7 +214,6 @@ uint8_t vme_processor_try_local_write(vme_processor *p, uint32_t at, const vme_d
     if (!take(board))
         return VME_BUSY;
     uint8_t result = vme_local_write(board->bytes, board->size, at, datum);
-    board->steps++;
     give(board);
     return result;
 }
@@ -241,7 +227,6 @@ uint8_t vme_processor_try_local_modify(vme_processor *p, uint32_t at, uint8_t n,
     if (!take(board))
         return VME_BUSY;
     uint8_t result = vme_local_modify(board->bytes, board->size, at, n, f, out);
-    board->steps++;
     give(board);
     return result;
 }
@@ -331,7 +316,6 @@ static uint8_t reply(struct processor *own, const vme_selection *found)
             own->have += datum.n;
         }
     }
-    board->steps++;
     return result;
 }
 
@@ -363,7 +347,6 @@ static uint8_t use_bus(struct processor *own)
     uint8_t told = own->phase == ASK    ? vme_arbiter_ask(&machine->arbiter, own->slot, own->level)
                    : own->phase == LOOK ? vme_arbiter_look(&machine->arbiter, own->slot)
                                         : vme_arbiter_done(&machine->arbiter, own->slot);
-    machine->bus.steps++;
     give(&machine->bus);
     if (own->phase == DONE) {
         own->phase = ENDED;

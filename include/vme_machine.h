@@ -72,13 +72,10 @@ typedef struct vme_board {
 uint8_t vme_machine_open(const vme_board *boards, size_t count, uint8_t arbiter, vme_processor *out,
                          size_t out_count);
 
-/* Closes a machine with all its count processors, in any order, and leaves the structs empty. Writes to
- * steps the steps of each board in order of slots and then those of the arbiter, as many as fit in
- * steps_count numbers, and to bytes the bytes of all boards one after another, as many as fit in size.
- * Fails with VME_CLOSED if a struct is empty; with VME_BAD_CALL if count is 0, or if these are not all
- * processors of one machine, each once; and with VME_NO_MEMORY. After a failure the machine is as it was. */
-uint8_t vme_machine_close(vme_processor *all, size_t count, uint64_t *steps, size_t steps_count,
-                          uint8_t *bytes, size_t size);
+/* Closes a machine with all its count processors, in any order, and leaves the structs empty. Fails with
+ * VME_CLOSED if a struct is empty; with VME_BAD_CALL if count is 0, or if these are not all processors of
+ * one machine, each once; and with VME_NO_MEMORY. After a failure the machine is as it was. */
+uint8_t vme_machine_close(vme_processor *all, size_t count);
 
 /* Gives up one processor and leaves its struct empty. Its machine can then not be closed; its memory is
  * freed with the last processor. Fails with VME_CLOSED. */

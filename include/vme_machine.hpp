@@ -248,13 +248,6 @@ private:
     std::uint32_t addr;
 };
 
-// What is left of a machine: the steps of each board and of the arbiter, and the bytes of each board.
-struct report {
-    std::vector<std::uint64_t> steps;
-    std::uint64_t arbiter_steps = 0;
-    std::vector<bytes> memories;
-};
-
 // The boards and the arbiter of a backplane. It outlives the threads of its processors.
 class machine {
 public:
@@ -264,10 +257,8 @@ public:
         std::vector<vme_processor> opened(boards.size() + 1);
         error::check(boards.empty() ? static_cast<std::uint8_t>(VME_BAD_CALL)
                                     : vme_machine_open(boards.data(), boards.size(), kind, opened.data(), boards.size()));
-        for (std::size_t i = 0; i < boards.size(); i++) {
+        for (std::size_t i = 0; i < boards.size(); i++)
             processors.emplace_back(opened[i], releases.get());
-            sizes.push_back(boards[i].entry.size);
-        }
     }
 
     // The number of its boards.
@@ -277,37 +268,21 @@ public:
     processor &operator[](std::size_t i) { return processors.at(i); }
 
     // Closes the machine, while no call of its processors runs. If a processor was moved away, it throws VME_CLOSED, and the machine is as it was.
-    report close()
+    void close()
     {
-        report left;
-        std::size_t total = 0;
-        for (const std::size_t size : sizes)
-            total += size;
-        bytes memory(total + 1);
-        left.steps.resize(sizes.size() + 1);
         std::vector<vme_processor> all;
-        all.reserve(sizes.size() + 1);
+        all.reserve(processors.size() + 1);
         for (processor &own : processors)
             all.push_back(own.release());
-        const std::uint8_t result =
-            vme_machine_close(all.data(), all.size(), left.steps.data(), left.steps.size(), memory.data(), total);
+        const std::uint8_t result = vme_machine_close(all.data(), all.size());
         for (std::size_t i = 0; result != VME_OK && i < all.size(); i++)
             processors[i] = processor(all[i], releases.get());
         error::check(result);
-        left.arbiter_steps = left.steps.back();
-        left.steps.pop_back();
-        auto at = memory.begin();
-        for (const std::size_t size : sizes) {
-            left.memories.emplace_back(at, at + static_cast<std::ptrdiff_t>(size));
-            at += static_cast<std::ptrdiff_t>(size);
-        }
-        return left;
     }
 
 private:
     std::unique_ptr<vme_releases> releases; // before the processors, whose waiters point to it
     std::vector<processor> processors;
-    std::vector<std::size_t> sizes;
 };
 
 } // namespace vme

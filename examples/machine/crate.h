@@ -69,22 +69,15 @@ static inline void run_each(size_t count, void *(*program)(void *))
         pthread_join(threads[i], NULL);
 }
 
-/* The bytes of all boards, once the machine is closed. */
-static uint8_t memory[MOST_BOARDS * BOARD_SIZE];
-
-/* Closes the machine, and returns the steps of all boards. */
-static inline uint64_t close_crate(size_t count)
+/* Closes the machine. */
+static inline void close_crate(size_t count)
 {
-    uint64_t steps[MOST_BOARDS], sum = 0;
     vme_processor all[MOST_BOARDS];
     for (size_t i = 0; i < count; i++) {
         all[i] = cpus[i].p;
         memset(&cpus[i].p, 0, sizeof cpus[i].p);
     }
-    want("close", vme_machine_close(all, count, steps, count, memory, sizeof memory), VME_OK);
-    for (size_t i = 0; i < count; i++)
-        sum += steps[i];
-    return sum;
+    want("close", vme_machine_close(all, count), VME_OK);
 }
 
 /* Reads a word, or a byte, at an address. */

@@ -26,7 +26,8 @@ int main(int argc, char **argv)
     rounds = argc > 1 ? strtoul(argv[1], NULL, 10) : rounds;
     open_crate(4);
     run_each(4, work);
-    const int is_right = counter == 4 * rounds && close_crate(4) == 4 * rounds;
+    close_crate(4);
+    const int is_right = counter == 4 * rounds;
     printf("the arbiter's tenure: %s\n", is_right ? "no increment is lost" : "increments are lost");
     return !is_right;
 }

@@ -63,6 +63,10 @@ int main()
     unsigned long counter = 0;
     std::uint32_t sum = 0;
     vme::machine machine(boards(), VME_ROTATING);
+    {
+        const vme::lock_guard guard(machine[0], AM, SEMAPHORE);
+        std::printf("while a guard has the lock, another processor %s\n", machine[1].try_lock(AM, SEMAPHORE) ? "takes it" : "does not");
+    }
     std::vector<std::thread> threads;
     for (std::size_t i = 0; i + 1 < machine.size(); i++)
         threads.emplace_back(work, std::ref(machine[i]), std::ref(counter));
@@ -78,8 +82,7 @@ int main()
         std::printf("without a processor: %s\n", refused.what());
     }
     machine[1] = std::move(moved);
-    const vme::report left = machine.close();
-    std::printf("the last board has %zu bytes, and its word is %u\n", left.memories[3].size(), left.memories[3][18] * 256u + left.memories[3][19]);
+    machine.close();
     try {
         machine[0].local_read(0, 4);
     } catch (const vme::error &refused) {

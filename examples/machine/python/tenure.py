@@ -21,5 +21,5 @@ def work(own: Processor) -> None:
 
 with crate(4) as machine:
     run_each([(work, (own,)) for own in machine.processors])
-is_right = counter == 4 * ROUNDS and sum(machine.report.steps) == counter
+is_right = counter == 4 * ROUNDS
 print("the arbiter's tenure:", "no increment is lost" if is_right else "increments are lost")

@@ -21,7 +21,7 @@ from .board import Board
 from .decoder import AddressMap
 from .errors import BusError, NoBoard, Refused, VmeError
 from .library import VERSION, version
-from .machine import Machine, MachineBoard, MachineReport, Mailbox, Processor
+from .machine import Machine, MachineBoard, Mailbox, Processor
 from .machine_library import MOST_READ, MachineResult
 from .request import Request, answered
 from .structures import (
@@ -57,7 +57,6 @@ __all__ = [
     "Lines",
     "Machine",
     "MachineBoard",
-    "MachineReport",
     "MachineResult",
     "Mailbox",
     "Modify",

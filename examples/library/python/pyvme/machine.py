@@ -6,7 +6,7 @@ import threading
 import time
 from collections.abc import Callable, Iterator, Sequence
 from contextlib import ExitStack, contextmanager
-from ctypes import byref, c_size_t, c_uint8, c_uint64
+from ctypes import byref, c_size_t, c_uint8
 from dataclasses import dataclass, field
 from types import TracebackType
 
@@ -43,15 +43,6 @@ class Mailbox:
     am: int
     addr: int
     slots: int
-
-
-@dataclass(frozen=True)
-class MachineReport:
-    """What is left of a machine: the steps of each board and of the arbiter, and the bytes of each board."""
-
-    steps: list[int]
-    arbiter_steps: int
-    memories: list[bytes]
 
 
 @dataclass
@@ -280,18 +271,13 @@ class Machine:
             thread = threading.Thread(target=program, args=(machine.processors[0],))
             thread.start()
             thread.join()
-        print(machine.report.steps)
 
-    The body of the `with` ends after its threads. The machine is then closed, and `report` has what is left of it; after an exception
-    its processors are dropped, and there is no report."""
-
-    report: MachineReport
+    The body of the `with` ends after its threads. The machine is then closed; after an exception its processors are dropped."""
 
     def __init__(self, boards: Sequence[MachineBoard], kind: ArbiterKind = ArbiterKind.PRIORITY, *, limit: int = 0) -> None:
         """Opens a machine of zeros. `limit` is the number of sleeps of a millisecond in which nothing changes, after which a call gives
         up; 0 for none. Raises `Refused` with C1 to C4, `VmeError` with BAD_CALL, and `MemoryError`."""
         count = len(boards)
-        self._sizes = [it.entry.size for it in boards]
         opened = (ProcessorStruct * max(1, count))()
         structs = (BoardStruct * max(1, count))(*(it._struct() for it in boards))
         require_machine(machine_lib().machine_open(structs, count, kind, opened, count))
@@ -301,24 +287,14 @@ class Machine:
         releases = _Releases()
         self.processors = [Processor(self._line[_PADDING * i], releases, limit) for i in range(count)]
 
-    def close(self) -> MachineReport:
+    def close(self) -> None:
         """Closes the machine, once no call runs. Raises `VmeError` with CLOSED if it is closed."""
         with self._all_alone():
-            return self._close()
-
-    def _close(self) -> MachineReport:
-        count = len(self.processors)
-        together = (ProcessorStruct * count)(*(self._line[_PADDING * i] for i in range(count)))
-        steps, memory = (c_uint64 * (count + 1))(), (c_uint8 * sum(self._sizes))()
-        require_machine(machine_lib().machine_close(together, count, steps, count + 1, memory, len(memory)))
-        for own in self._line:
-            own.full, own.hidden = 0, None
-        memories, at = [], 0
-        for size in self._sizes:
-            memories.append(bytes(memory[at : at + size]))
-            at += size
-        self.report = MachineReport(list(steps[:count]), steps[count], memories)
-        return self.report
+            count = len(self.processors)
+            together = (ProcessorStruct * count)(*(self._line[_PADDING * i] for i in range(count)))
+            require_machine(machine_lib().machine_close(together, count))
+            for own in self._line:
+                own.full, own.hidden = 0, None
 
     def drop(self) -> None:
         """Gives all processors up, once no call runs."""
