@@ -48,7 +48,7 @@ module _ (R Z : RattleType) (L : Laws Z) (g : Ghosts Z.Denot) where
     -- its parts are the box in its block and the allocator's handle
     pub loose_out : K → (d : Loose.Denot) (vs : List Val)
         → ((b o : ℕ) (h : Val) → d.at ≡ block_ptr b o → vs ≡ both (vptr b o) h ∷ [] → Good (layout Z) h
-            → Seq K 𝓛 (‵ (owned d.alloc d.value (block_ptr b o)) ∷ ‵ (Z.own_val d.alloc (h ∷ [])) ∷ Γ) G)
+        → Seq K 𝓛 (‵ (owned d.alloc d.value (block_ptr b o)) ∷ ‵ (Z.own_val d.alloc (h ∷ [])) ∷ Γ) G)
         → Seq K 𝓛 (‵ (Loose.own_val d vs) ∷ Γ) G
     loose_out t d vs then =
         let Whole = λ (ps hs : List Val). vs ≡ vstruct (of_list (ps ++ (hs ++ []))) ∷ [] in
@@ -57,14 +57,14 @@ module _ (R Z : RattleType) (L : Laws Z) (g : Ghosts Z.Denot) where
         handle_tells bare_allocator t d.alloc fields.1.0 (λ h handle fits. move t (1 ∷ []) $ drop t $ move t (1 ∷ []) $
         in_a_block t d.at (owned d.alloc d.value) (fst∗ 𝓤 (never 𝓤) Null) (λ b o at.
         then b o h at
-            (subst (λ (p : Ptr). Whole (ptr_val p ∷ []) (h ∷ [])) at
-            (subst (Whole (ptr_val d.at ∷ [])) handle (subst (λ (ps : List Val). Whole ps fields.1.0) pointer whole)))
-            fits)))))
+        (subst (λ (p : Ptr). Whole (ptr_val p ∷ []) (h ∷ [])) at
+        (subst (Whole (ptr_val d.at ∷ [])) handle (subst (λ (ps : List Val). Whole ps fields.1.0) pointer whole)))
+        fits)))))
 
     -- and it is made of them
     pub loose_in : K → (b o : ℕ) (h : Val) (a : Z.Denot) (x : R.Denot)
         → Step K 𝓛 (‵ (Loose.own_val (record { at = block_ptr b o; alloc = a; value = x }) (both (vptr b o) h ∷ [])) ∷ Γ) G
-            (‵ (owned a x (block_ptr b o)) ∷ ‵ (Z.own_val a (h ∷ [])) ∷ Γ) G
+        (‵ (owned a x (block_ptr b o)) ∷ ‵ (Z.own_val a (h ∷ [])) ∷ Γ) G
     loose_in t b o h a x = step (λ rest.
         let whole : List Val = both (vptr b o) h ∷ [] in let pointer : List Val = vptr b o ∷ [] in
         nothing t $ move t (2 ∷ 0 ∷ []) $ fjoin t $ feq_i t (List Val) pointer pointer refl $ fjoin t $

@@ -33,7 +33,8 @@ number_of called.Closed = results.closed
 
 -- what a call writes: the bytes that a reply has, and otherwise nothing
 abbrev pub Writes : Called → VmeDatum → VmeDatum → Type 0
-Writes (called.Reply (replies.Board (Bytes datum))) old new = (datum_of new ≡ datum.items) × (new ≡ datum_struct datum.items)
+Writes (called.Reply (replies.Board (Bytes datum))) old new =
+    (datum_of new ≡ datum.items) × (new ≡ datum_struct datum.items)
 Writes (called.Reply (replies.Board Done)) old new = new ≡ old
 Writes (called.Reply (replies.Board Berr)) old new = new ≡ old
 Writes (called.Reply (replies.Bus reply)) old new = new ≡ old
@@ -50,8 +51,8 @@ pub record IsSame (p q : Processor) : Type 0 where
 -- one event: the call adds one entry of this command to the processor's board, with the reply, after all that the
 -- processor had seen
 pub record MadeEvent (cmd : BusCommand) (reply : EventReply) (p q : Processor) : Type 0 where
-  pub adds : Adds bus_object_step (opening (arc_value p.member.array)) (entry p.member.pass.who (indexed p.index cmd) reply ∷ [])
-      p.member.pass q.member.pass
+  pub adds : Adds bus_object_step (opening (arc_value p.member.array))
+      (entry p.member.pass.who (indexed p.index cmd) reply ∷ []) p.member.pass q.member.pass
   pub same : IsSame p q
 
 -- no event, since another processor holds the board: the pass is as it was, and the machine has other processors

@@ -6,3 +6,5 @@ pub mod Buffers
 pub mod Calls
 pub mod Closings
 pub mod Openings
+pub mod Requests
+pub mod Transfers

@@ -14,7 +14,8 @@ use Rattle.vme_machine_ffi.specs.Structs.{processors_in, full}
 abbrev pub memory_of : VmeBoard → Board
 memory_of board = record { bytes = zeros board.entry.size; class = class_of board.cls }
 
--- the processors of a new machine of these boards and of an arbiter of a free bus; in order, none has seen or made an entry
+-- the processors of a new machine of these boards and of an arbiter of a free bus; in order, none has seen or made an
+-- entry
 pub record AreOpened (boards : List VmeBoard) (arbiter : ℕ) (processors : List Processor) : Type 0 where
   pub machine : Machine
   pub opens : opening machine ≡ objects_at_first (map memory_of boards) (kind_of arbiter)

@@ -11,5 +11,7 @@ mod datum;
 mod handle;
 mod modify;
 mod opening;
+mod request;
 mod results;
 mod structs;
+mod transfer;

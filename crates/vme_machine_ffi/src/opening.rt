@@ -10,10 +10,9 @@ use crate::handle::VmeProcessor;
 use crate::results::{BAD_CALL, NO_MEMORY, OK, map_refusal_number};
 use crate::structs::{boxed, put_all};
 use std::alloc::{AllocError, Global};
-use vme_decode::{Entry, check};
-use vme_machine::OpenFault;
+use vme_decode::{AddressMap, Entry};
 use vme_memory::{ByteMemory, MemoryFault};
-use vme_processor::{Processor, open};
+use vme_processor::{OpenError, Place, Processor, open};
 
 /// The greatest number of a slot.
 const LAST_SLOT: u16 = 21;
@@ -45,6 +44,21 @@ fn entries_of(alloc: Global, boards: &[VmeBoard]) -> Result<Vec<Entry>, AllocErr
         entries.push_reserved(entry_of(&boards[i].entry));
     }
     Ok(entries)
+}
+
+/// Returns the places of the boards, in order.
+///
+/// # Errors
+/// `AllocError` if an allocation fails.
+fn places_of(alloc: Global, boards: &[VmeBoard]) -> Result<Vec<Place>, AllocError> {
+    let mut places = Vec::new(alloc);
+    for board in boards {
+        places.push(Place {
+            slot: board.slot,
+            level: board.level,
+        })?;
+    }
+    Ok(places)
 }
 
 /// Returns the memories of the boards, in order; every byte is zero.
@@ -79,18 +93,22 @@ fn processors_of(
     let Ok(entries) = entries_of(alloc, boards) else {
         return Err(NO_MEMORY);
     };
-    if let Err(fault) = check(entries.as_slice()) {
-        return Err(map_refusal_number(fault));
-    }
+    let map = match AddressMap::new(alloc, entries.as_slice()) {
+        Ok(map) => map,
+        Err(fault) => return Err(map_refusal_number(fault)),
+    };
+    let Ok(places) = places_of(alloc, boards) else {
+        return Err(NO_MEMORY);
+    };
     let memories = match memories_of(alloc, boards) {
         Ok(memories) => memories,
         Err(MemoryFault::OutOfMemory) => return Err(NO_MEMORY),
         Err(MemoryFault::BadSize) => return Err(BAD_CALL),
     };
-    let processors = match open(alloc, memories, kind_of(arbiter)) {
+    let processors = match open(alloc, memories, kind_of(arbiter), map, places.as_slice()) {
         Ok(processors) => processors,
-        Err(OpenFault::OutOfMemory) => return Err(NO_MEMORY),
-        Err(OpenFault::BadCount) => return Err(BAD_CALL),
+        Err(OpenError::OutOfMemory) => return Err(NO_MEMORY),
+        Err(OpenError::BadCount) => return Err(BAD_CALL),
     };
     match boxed(alloc, processors) {
         Ok(boxes) => Ok(boxes),

@@ -26,12 +26,14 @@ use Rattle.vme_processor.specs.declared.transfer.StartFault.{StartFault}
 use Rattle.vme_processor.specs.declared.transfer.StartFault.TheVariants.{Running, TooLong, Refused}
 
 -- one event: a member adds one entry of a command to the object at an index, with the reply
-abbrev pub AddsEntry : ℕ → BusCommand → EventReply → Member BusObject BusCommand EventReply → Member BusObject BusCommand EventReply → Type 0
+abbrev pub AddsEntry : ℕ → BusCommand → EventReply → Member BusObject BusCommand EventReply
+    → Member BusObject BusCommand EventReply → Type 0
 AddsEntry index cmd reply m n =
     Adds bus_object_step (opening (arc_value m.array)) (entry m.pass.who (indexed index cmd) reply ∷ []) m.pass n.pass
 
 -- one call: the entry is of a command for it to the board, or of the command to the arbiter, the last object
-abbrev pub AddsCall : Call → EventReply → Member BusObject BusCommand EventReply → Member BusObject BusCommand EventReply → Type 0
+abbrev pub AddsCall : Call → EventReply → Member BusObject BusCommand EventReply
+    → Member BusObject BusCommand EventReply → Type 0
 AddsCall (OnBoard board command) reply m n =
     (cmd : BoardCmd) × (command_given cmd ≡ command) × AddsEntry board (commands.Board cmd) reply m n
 AddsCall (OnBus cmd) reply m n =
@@ -56,7 +58,8 @@ IfRefused lawful TooLong = Unit {0}
 IfRefused lawful (Refused fault) = lawful ≡ Err fault
 
 -- one event of a transfer: the member makes the next call, and the transfer advances by the reply
-pub record StepsTask (reply : EventReply) (m n : Member BusObject BusCommand EventReply) (before after : TaskView) : Type 0 where
+pub record StepsTask (reply : EventReply) (m n : Member BusObject BusCommand EventReply)
+    (before after : TaskView) : Type 0 where
   pub call : Call
   pub next : call_in (to_do before) ≡ Some call
   pub adds : AddsCall call reply m n

@@ -1,7 +1,6 @@
 use Rattle.std.proofs.Common.{arith, ◌≡◌, ◌∙◌, ◌≤◌, List, All, ap, refl, sym, subst}
 use Rattle.vme_processor.specs.declared.processor.Processor.{Processor}
 use Rattle.vme_processor.specs.Processors.{IsOf}
-use Rattle.vme_machine_ffi.specs.Closings.{AreOf, HasSettled}
 use Rattle.vme_machine_ffi.specs.Structs.{processors_in, full, values_of}
 use Rattle.vme_machine_ffi.proofs.Filled.{full_same}
 use Rattle.vme_machine_ffi.proofs.closing.vme_machine_close.Goals as goal

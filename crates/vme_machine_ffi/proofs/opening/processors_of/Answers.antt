@@ -1,4 +1,4 @@
-use Rattle.std.proofs.Common.{◌≡◌, ◌∙◌, map, ap, sym, subst}
+use Rattle.std.proofs.Common.{◌∙◌, map, ap, sym, subst}
 use Rattle.vme_machine.specs.Members.{AreNew}
 use Rattle.vme_processor.specs.Processors.{objects_at_first, members_of}
 use Rattle.vme_machine_ffi.specs.Openings.{memory_of}

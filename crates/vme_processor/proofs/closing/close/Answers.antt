@@ -1,4 +1,4 @@
-use Rattle.std.proofs.Common.{◌≡◌, ◌∙◌, All, IfOk, ap, sym, subst}
+use Rattle.std.proofs.Common.{◌∙◌, All, IfOk, ap, sym, subst}
 use Rattle.vme_bus_objects.specs.Objects.{bus_object_step}
 use Rattle.vme_port_array.specs.Arrays.{opening, passes_of}
 use Rattle.vme_port_array.specs.Settlements.{Settles}

@@ -4,7 +4,7 @@ use mathlib.Core.Bool.{Bool, true, false}
 use mir.Val.{Val, vptr}
 use base.Logic.{SProp, ent, emp, id⊢}
 use prog.Wp.{WpFn}
-use types.Kit.{‵, raw, ◌⊛◌, ◌$◌, ◌∵◌, !, qed, by, move, keep, drop, split, fsplit, fjoin, suffices, use0, use1, rewrite}
+use types.Kit.{‵, raw, ◌⊛◌, ◌$◌, ◌∵◌, !, qed, by, move, keep, split, fsplit, fjoin, suffices, use0, rewrite}
 use types.Run.{stop, fld, of_opd, no_more, and_then, returns, enter}
 use types.ByLocal.{alloc_all, pass_all, free_all, look_at, get, get_in, sets}
 use types.Part.{agg, sub, whole}
@@ -13,13 +13,13 @@ use contract.Monad.{fact, fact_i}
 use denote.Exit.{yes}
 use denote.RattleType.{RattleType, owns}
 use denote.Signature.{types_at, plain}
-use denote.RawPtr.{Ptr, block_ptr}
+use denote.RawPtr.{block_ptr}
 use denote.Steps.{nothing, heard}
 use denote.Param.{layout}
 use denote.Triple.Entry.{alive}
 use denote.Triple.Walked.{Stays, stay_dropped, walk_of, Goes-dropped}
 use Rattle.std.proofs.alloc.Calls.{Goes-blank}
-use Rattle.std.proofs.cell.Inside.{Good, one}
+use Rattle.std.proofs.cell.Inside.{one}
 use Rattle.std.specs.declared.option.Option.{Option}
 use Rattle.std.specs.declared.option.Option.TheVariants.{Some, None}
 use Rattle.std.specs.Option.{IsSome}
@@ -28,8 +28,8 @@ use Rattle.std.proofs.raw_atomic.Walks.{proved_at, leaves}
 use Rattle.std.specs.contracts.impls.GlobalAllocator.TheImpl.{ghosts}
 use Rattle.vme_processor.specs.contracts.processor.Processor.{the_row as Value}
 use Rattle.vme_handle.specs.contracts.loose.Loose.{the_row as loose_row}
-use Rattle.vme_handle.proofs.Values.{R, Z, LZ, Handle, only, handle_good, handle_in, handle_out}
-use Rattle.vme_handle.proofs.LooseValues.{both, loose_good, loose_out, loose_in}
+use Rattle.vme_handle.proofs.Values.{R, Z, LZ, Handle, only, handle_good, handle_out}
+use Rattle.vme_handle.proofs.LooseValues.{both, loose_good, loose_in}
 use Rattle.vme_handle.specs.contracts.handle.Handle.show.{ended, clauses}
 use Rattle.vme_handle.specs.contracts.handle.Handle.show.Key.{name as #self}
 use Rattle.vme_handle.proofs.handle.Handle.show.Statement.{statement}
