@@ -1,5 +1,5 @@
 //! One line edited in some samples of the course, and the verdict on the whole.
-use crate::course::{STEPS, course, scope};
+use crate::course::{COURSE, STEPS, scope};
 use std::process::Abort;
 use vme_protocol::{Mode, Rule, Sample, Scope, Verdict, judge};
 
@@ -179,7 +179,7 @@ static LINE: [(usize, usize, Edit, usize, Rule); 3] = [
 
 /// Returns the course with a line edited from one sample to another.
 fn course_with(first: usize, last: usize, edit: Edit) -> [Sample; STEPS] {
-    let mut samples = course();
+    let mut samples = COURSE;
     for (at, sample) in samples.iter_mut().enumerate() {
         if first <= at && at <= last {
             *sample = edited(edit, *sample);
@@ -191,7 +191,7 @@ fn course_with(first: usize, last: usize, edit: Edit) -> [Sample; STEPS] {
 #[test]
 fn the_course_breaks_no_rule(rt: HostRuntime) {
     for mode in [Mode::Bus, Mode::Model] {
-        assert!(rt; judge(scope(mode), &course()) == Verdict::Legal);
+        assert!(rt; judge(scope(mode), &COURSE) == Verdict::Legal);
     }
 }
 

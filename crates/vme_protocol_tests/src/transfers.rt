@@ -1,7 +1,7 @@
 //! Transfers of one datum and more: the data that they show, and the rule that they break.
 use crate::course::scope;
 use std::process::Abort;
-use vme_protocol::{Datum, Mode, Rule, Sample, Watch};
+use vme_protocol::{Datum, Mode, Rule, Sample, Scope, Watch};
 
 /// A handshake: WRITE*, DS1*, DS0*, and whether BERR* answers.
 #[derive(Clone, Copy, Debug, PartialEq, Eq)]
@@ -139,71 +139,88 @@ fn take(
     Ok(is_next)
 }
 
-/// Runs a transfer: returns whether its data are the next ones of a list, and how many they are.
-fn run(
-    am: u8,
-    lines: u32,
-    cycles: &[Cycle],
-    data: &[(u32, u8)],
-    count: &mut usize,
-) -> Result<bool, Rule> {
-    let scope = vme_protocol::Scope {
-        busy: false,
-        drivers: false,
-        grants: false,
-        ..scope(Mode::Model)
-    };
-    let mut watch = Watch::new(scope, Sample::rest());
-    let mut are_next = true;
-    let named = Sample {
+/// The lines at rest, with the names of a transfer.
+fn named(am: u8, lines: u32) -> Sample {
+    Sample {
         am,
         am_undefined: false,
-        write: true,
         write_undefined: false,
         lines: u64::from(lines) * 0x1_0000_0000,
         lines_undefined: 0,
         ..Sample::rest()
+    }
+}
+
+/// The samples of a cycle under AS*.
+fn samples_of(open: Sample, cycle: Cycle) -> [Sample; 5] {
+    let Cycle(write, ds1, ds0, berr) = cycle;
+    let ready = Sample { write, ..open };
+    let low = Sample { ds1, ds0, ..ready };
+    let answered = Sample {
+        dtack: berr,
+        berr: !berr,
+        lines_undefined: if berr { 0xffff_ffff } else { 0 },
+        ..low
     };
+    let high = Sample {
+        ds1: true,
+        ds0: true,
+        ..answered
+    };
+    [ready, low, answered, high, ready]
+}
+
+/// Takes the samples of a cycle, and returns whether its data are the next ones of a list.
+fn take_cycle(
+    watch: &mut Watch,
+    samples: &[Sample; 5],
+    data: &[(u32, u8)],
+    count: &mut usize,
+) -> Result<bool, Rule> {
+    let mut are_next = true;
+    for s in samples {
+        are_next = take(watch, s, data, count)? && are_next;
+    }
+    Ok(are_next)
+}
+
+/// Runs a transfer: returns whether its data are the next ones of a list.
+fn run(
+    name: Sample,
+    cycles: &[Cycle],
+    data: &[(u32, u8)],
+    count: &mut usize,
+) -> Result<bool, Rule> {
     let open = Sample {
         address_strobe: false,
-        ..named
+        ..name
     };
-    are_next = take(&mut watch, &named, data, count)? && are_next;
+    let mut watch = Watch::new(lone_scope(), Sample::rest());
+    let mut are_next = take(&mut watch, &name, data, count)?;
     are_next = take(&mut watch, &open, data, count)? && are_next;
-    for Cycle(write, ds1, ds0, berr) in cycles {
-        let ready = Sample {
-            write: *write,
-            ..open
-        };
-        let low = Sample {
-            ds1: *ds1,
-            ds0: *ds0,
-            ..ready
-        };
-        let answered = Sample {
-            dtack: *berr,
-            berr: !*berr,
-            lines_undefined: if *berr { 0xffff_ffff } else { 0 },
-            ..low
-        };
-        let high = Sample {
-            ds1: true,
-            ds0: true,
-            ..answered
-        };
-        for s in [ready, low, answered, high, ready] {
-            are_next = take(&mut watch, &s, data, count)? && are_next;
-        }
+    for cycle in cycles {
+        let samples = samples_of(open, *cycle);
+        are_next = take_cycle(&mut watch, &samples, data, count)? && are_next;
     }
-    are_next = take(&mut watch, &named, data, count)? && are_next;
+    are_next = take(&mut watch, &name, data, count)? && are_next;
     Ok(are_next)
+}
+
+/// The scope of a trace without BBSY* and grants.
+fn lone_scope() -> Scope {
+    Scope {
+        busy: false,
+        drivers: false,
+        grants: false,
+        ..scope(Mode::Model)
+    }
 }
 
 #[test]
 fn transfers_show_their_data(rt: HostRuntime) {
     for (am, lines, cycles, data, rule) in &TRANSFERS {
         let mut count = 0;
-        let ran = run(*am, *lines, cycles, data, &mut count);
+        let ran = run(named(*am, *lines), cycles, data, &mut count);
         let expected = match rule {
             Some(rule) => Err(*rule),
             None => Ok(true),
