@@ -16,7 +16,7 @@ complete -c bendrika -n '__fish_seen_subcommand_from check' -s q -l quiet -d 'Pr
 complete -c bendrika -n '__fish_seen_subcommand_from check' -l no-warnings -d 'Report errors alone'
 complete -c bendrika -n '__fish_seen_subcommand_from check' -l limit -x -d 'Print at most N findings of each input; 0 is no limit [default: 100]'
 complete -c bendrika -n '__fish_seen_subcommand_from check' -s h -l help -d 'Print help'
-complete -c bendrika -n '__fish_seen_subcommand_from explain' -f -a 'K9 K2 K1 K5 K7 K8 K4 K3 K6 S1 S2 S3 S4 S5 S6 S7 S8 S9 C6 C7 C11 C4 C8 C9 C10 C5 C3 C2 C1 C12 C13 C14 F1 F2 F3 U4 F4 U2 F5 U1 F6 U3 usage done read old met taken put took unfinished timeout busy full empty spent berr denied refused slot refused nothing no-turns few-turns idle-turns no-lines no-answer past-end board-lacks never-met lock-written lock-kept idle-mailbox decimal J1 J2 J3 J4 J5 J6 J7 J8 J9 J10 J11 J12 J13 J14 J15 J16 J17 J21 J22 J23 J24'
+complete -c bendrika -n '__fish_seen_subcommand_from explain' -f -a 'K9 K2 K1 K5 K7 K8 K4 K3 K6 S1 S2 S3 S4 S5 S6 S7 S8 S9 C6 C7 C11 C4 C8 C9 C10 C5 C3 C2 C1 C12 C13 C14 F1 F2 F3 U4 F4 U2 F5 U1 F6 U3 usage done read old met taken put took unfinished timeout busy full empty spent berr denied refused slot refused nothing no-turns few-turns idle-turns no-lines no-answer past-end board-lacks never-met lock-written lock-kept idle-mailbox decimal'
 complete -c bendrika -n '__fish_seen_subcommand_from explain' -l all -d 'Print all texts as a table in Markdown'
 complete -c bendrika -n '__fish_seen_subcommand_from explain' -l json -d 'Print one JSON object a line'
 complete -c bendrika -n '__fish_seen_subcommand_from explain' -s h -l help -d 'Print help'

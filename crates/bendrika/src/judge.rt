@@ -110,11 +110,11 @@ fn wrong(rt: &HostRuntime, why: &str) {
 }
 
 /// Judges an opened trace.
-fn judge_input<T: Read + Drop>(
+fn judge_input<'a, T: Read + Drop>(
     rt: &HostRuntime,
-    options: &Options<'_>,
-    lines: &LineMap,
-    boards: &[Board],
+    options: &'a Options<'a>,
+    lines: &'a LineMap,
+    boards: &'a [Board],
     input: T,
 ) -> Result<Status, Fault> {
     let mut reader = InputReader::new(input);

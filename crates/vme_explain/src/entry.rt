@@ -15,12 +15,12 @@ pub struct Text {
     pub sections: &'static str,
     /// What to do. Empty: nothing.
     pub help: &'static str,
-    /// An input that is answered with the code. A fault of the program, a warning, an answer of
-    /// `bendrika serve` alone and a rule that an option asks for have none.
+    /// An input that `vme` answers with the code. A fault of the program, a warning and an answer of
+    /// `bendrika serve` alone have none.
     pub example: Option<Example>,
 }
 
-/// An input, and a line of the answer.
+/// An input, and a line of the answer of `vme`.
 #[derive(Clone, Copy, Debug)]
 pub struct Example {
     /// The part of the input that matters, in one line.
@@ -45,20 +45,14 @@ pub enum Input {
         times: u16,
         tail: &'static str,
     },
-    /// A trace for `bendrika judge`: a dump, or a bus log without a head.
-    Trace {
-        head: &'static str,
-        tail: &'static str,
-    },
 }
 
 impl Example {
-    /// The command that takes the input: of `vme`, or `judge` of `bendrika`.
+    /// The command of `vme` that runs the input.
     pub(crate) fn form(&self) -> &'static str {
         match self.input {
             Input::Line => "cycles",
             Input::File(_) | Input::LongFile { .. } => "step",
-            Input::Trace { .. } => "judge",
         }
     }
 
@@ -73,7 +67,6 @@ impl Example {
                 times,
                 tail,
             } => [(head, 1), (repeated, times), (tail, 1)],
-            Input::Trace { head, tail } => [(head, 1), (tail, 1), ("", 0)],
         }
     }
 }

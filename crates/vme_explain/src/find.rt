@@ -1,6 +1,6 @@
 //! The texts that a line asks for.
 use crate::entry::Text;
-use crate::tables::{FAULTS, FILES, JUDGEMENTS, LINES, REPLIES, REQUESTS, WARNINGS};
+use crate::tables::{FAULTS, FILES, LINES, REPLIES, REQUESTS, WARNINGS};
 use std::alloc::{AllocError, Global};
 
 /// What a line asks for.
@@ -12,9 +12,8 @@ pub enum Asked {
     Unknown(String),
 }
 
-/// Returns the seven tables: the texts of requests, lines, files, faults, replies, warnings and rules
-/// of traces.
-pub fn all() -> [&'static [Text]; 7] {
+/// Returns the six tables: the texts of requests, lines, files, faults, replies and warnings.
+pub fn all() -> [&'static [Text]; 6] {
     [
         REQUESTS.as_slice(),
         LINES.as_slice(),
@@ -22,7 +21,6 @@ pub fn all() -> [&'static [Text]; 7] {
         FAULTS.as_slice(),
         REPLIES.as_slice(),
         WARNINGS.as_slice(),
-        JUDGEMENTS.as_slice(),
     ]
 }
 

@@ -2,7 +2,6 @@
 
 mod faults;
 mod files;
-mod judgements;
 mod lines;
 mod replies;
 mod requests;
@@ -10,7 +9,6 @@ mod warnings;
 
 pub(crate) use faults::FAULTS;
 pub(crate) use files::FILES;
-pub(crate) use judgements::JUDGEMENTS;
 pub(crate) use lines::LINES;
 pub(crate) use replies::REPLIES;
 pub(crate) use requests::REQUESTS;

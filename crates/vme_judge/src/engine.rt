@@ -23,11 +23,11 @@ const PIECE: usize = 16_384;
 ///
 /// `Read` or `Write`: the reader or the writer failed. `Memory`: an allocation failed. `TooLong`:
 /// the trace has 2^64 - 1 pieces or more.
-pub fn judge_engine<S: Source, W: Sink>(
+pub fn judge_engine<'a, S: Source, W: Sink>(
     alloc: Global,
-    options: &Options<'_>,
-    map: &LineMap,
-    boards: &[Board],
+    options: &'a Options<'a>,
+    map: &'a LineMap,
+    boards: &'a [Board],
     trace: &mut S,
     writer: &mut W,
 ) -> Result<Status, JudgeFault>
