@@ -177,9 +177,9 @@ static LINE: [(usize, usize, Edit, usize, Rule); 3] = [
     (12, 18, Edit::Busy(true), 12, Rule::AddressStrobeFalls),
 ];
 
-/// Returns the course with a line edited from one sample to another.
-fn course_with(first: usize, last: usize, edit: Edit) -> [Sample; STEPS] {
-    let mut samples = COURSE;
+/// Returns a course with a line edited from one sample to another.
+fn course_with(course: &[Sample; STEPS], first: usize, last: usize, edit: Edit) -> [Sample; STEPS] {
+    let mut samples = *course;
     for (at, sample) in samples.iter_mut().enumerate() {
         if first <= at && at <= last {
             *sample = edited(edit, *sample);
@@ -198,7 +198,7 @@ fn the_course_breaks_no_rule(rt: HostRuntime) {
 #[test]
 fn each_rule_is_broken_alone(rt: HostRuntime) {
     for (first, last, edit, at, rule) in &BROKEN {
-        let samples = course_with(*first, *last, *edit);
+        let samples = course_with(&COURSE, *first, *last, *edit);
         for mode in [Mode::Bus, Mode::Model] {
             let verdict = judge(scope(mode), &samples);
             let expected = Verdict::Illegal {
@@ -213,7 +213,7 @@ fn each_rule_is_broken_alone(rt: HostRuntime) {
 #[test]
 fn what_the_bus_allows_breaks_no_rule(rt: HostRuntime) {
     for (first, last, edit) in &LEGAL {
-        let samples = course_with(*first, *last, *edit);
+        let samples = course_with(&COURSE, *first, *last, *edit);
         for mode in [Mode::Bus, Mode::Model] {
             let verdict = judge(scope(mode), &samples);
             assert!(rt;
@@ -227,7 +227,7 @@ fn what_the_bus_allows_breaks_no_rule(rt: HostRuntime) {
 #[test]
 fn the_model_has_more_rules(rt: HostRuntime) {
     for (first, last, edit, at, rule) in &MODEL {
-        let samples = course_with(*first, *last, *edit);
+        let samples = course_with(&COURSE, *first, *last, *edit);
         let legal = judge(scope(Mode::Bus), &samples);
         assert!(rt; legal == Verdict::Legal, "{edit:?} at {first}: {legal:?}");
         let verdict = judge(scope(Mode::Model), &samples);
@@ -247,7 +247,7 @@ fn the_line_of_the_bus_is_enough(rt: HostRuntime) {
         ..scope(Mode::Bus)
     };
     for (first, last, edit, at, rule) in &LINE {
-        let verdict = judge(scope, &course_with(*first, *last, *edit));
+        let verdict = judge(scope, &course_with(&COURSE, *first, *last, *edit));
         let expected = Verdict::Illegal {
             at: *at,
             rule: *rule,
