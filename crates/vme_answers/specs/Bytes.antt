@@ -21,6 +21,7 @@ abbrev pub finds : ℕ → List ℕ → List Access
 finds at [] = []
 finds at (byte ∷ bytes) = Finds at byte ∷ finds (at + 1) bytes
 
+-- bytes are stored one after another from an offset
 abbrev pub stores : ℕ → List ℕ → List Access
 stores at [] = []
 stores at (byte ∷ bytes) = Stores at byte ∷ stores (at + 1) bytes

@@ -53,5 +53,6 @@ abbrev pub select_by : List Entry → List Row → Datum → Result CodeRow AmFa
 select_by entries rows d (Err fault) = None
 select_by entries rows d (Ok code) = chosen_at rows d (selection_at entries code d.first)
 
+-- the row that the address map selects for a datum, and the offset there
 unfoldable pub select : List Entry → List Row → Datum → Option Selected
 select entries rows d = select_by entries rows d (read_code d.am)

@@ -41,7 +41,7 @@ abbrev pub opened : Open → Row → List Byte → List Byte
 opened o row bytes =
     open_between (place_after row.start (min o.from row.size)) (place_after row.start (min o.to row.size)) bytes
 
--- the same of the board of the range, if there is one
+-- bytes of which those of a range are open, if its board is there
 abbrev pub opened_if : Open → Option Row → List Byte → List Byte
 opened_if o None bytes = bytes
 opened_if o (Some row) bytes = opened o row bytes

@@ -133,8 +133,8 @@ impl Answers {
         ensures within { IfSome result (λ at. at + len ≤ length self.now.bytes) }
     {
         let end = u64::from(selected.offset) + u64::from(len);
-        let room = self.bytes.len().checked_sub(selected.row.start)?;
-        if end > u64::from(selected.row.size) || end > room as u64 {
+        let left = self.bytes.len().checked_sub(selected.row.start)?;
+        if end > u64::from(selected.row.size) || end > left as u64 {
             return None;
         }
         Some(selected.row.start + selected.offset as usize)

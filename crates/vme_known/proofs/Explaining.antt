@@ -357,7 +357,7 @@ none_added is_free _ _ closed none = refl
 none_added is_free _ _ closed (seen access accesses more rest) = ap (λ (later : List Access). access ∷ later) (none_added is_free accesses more closed rest)
 none_added is_free _ _ closed (unseen at byte accesses more is rest) = absurd (false≢true (sym (closed at) ∙ is))
 
--- the same of a board
+-- as above, of the bytes of a board
 pub nothing_added : (bytes : List Byte) (accesses more : List Access) → ((at : ℕ) → is_open (slice_get bytes at) ≡ false)
     → Adds (open_at bytes) accesses more → more ≡ accesses
 nothing_added bytes accesses more closed adds = none_added (open_at bytes) accesses more closed adds

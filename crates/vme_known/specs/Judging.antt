@@ -24,6 +24,7 @@ abbrev pub place_of : Access → ℕ
 place_of (Finds at byte) = at
 place_of (Stores at byte) = at
 
+-- the byte that an access finds or stores
 abbrev pub byte_in : Access → ℕ
 byte_in (Finds at byte) = byte
 byte_in (Stores at byte) = byte

@@ -94,7 +94,7 @@ not_lone : (w : Watch) (t : Transfer) (s : Sample) → handshake_broken w t s �
 unfolding handshake_broken handshake_tests
 not_lone w t s h = head_fails (handshake_tests w t s) h
 
--- the same of a sample that breaks no rule
+-- as above, of a sample that breaks no rule
 none_lone : (w : Watch) (s : Sample) → broken w s ≡ None → has_lone_strobe w s ≡ false
 unfolding broken
 none_lone w s h =
@@ -136,7 +136,7 @@ under_after w (s ∷ samples) n h =
     let parts = legal_parts (broken w s) n (verdict_after (watched w s) samples (n + 1)) h in
     both_hold (is_under_address_strobe w.scope s) _ (under_one w s parts.0) (under_after (watched w s) samples (n + 1) parts.1)
 
--- the same of a trace
+-- as above, of a trace
 pub under : (scope : Scope) (first : Sample) (samples : List Sample) → verdict scope (first ∷ samples) ≡ Legal
     → list_all (is_under_address_strobe scope) samples ≡ true
 unfolding verdict

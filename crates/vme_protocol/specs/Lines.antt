@@ -19,6 +19,7 @@ abbrev pub lines_by : Result CodeRow AmFault → ℕ
 lines_by (Ok row) = space_lines row.space
 lines_by (Err fault) = 0
 
+-- the number of address lines that count with a code; IEEE 1014-1987, 2.2.2 (address modifier lines)
 unfoldable pub counted_lines : ℕ → ℕ
 counted_lines am = lines_by (read_code am)
 

@@ -79,6 +79,7 @@ abbrev pub misfits_cycle : Transfer → Sample → Bool
 misfits_cycle t s =
     nat_lt 1 t.count || t.count == 1 && not (t.write && not s.write && beq s.ds1 t.ds1 && beq s.ds0 t.ds0)
 
+-- a datum may not come at this place of its transfer
 abbrev pub misfits : Transfer → Place → Sample → Bool
 misfits t place s = if t.block then misfits_block t place s else misfits_cycle t s
 

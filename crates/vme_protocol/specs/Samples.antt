@@ -26,6 +26,7 @@ rises before after = not before && after
 abbrev pub address_strobe_falls : Sample → Sample → Bool
 address_strobe_falls before after = falls before.address_strobe after.address_strobe
 
+-- AS* rises between two samples
 abbrev pub address_strobe_rises : Sample → Sample → Bool
 address_strobe_rises before after = rises before.address_strobe after.address_strobe
 
@@ -33,6 +34,7 @@ address_strobe_rises before after = rises before.address_strobe after.address_st
 abbrev pub strobe_falls : Sample → Sample → Bool
 strobe_falls before after = falls before.ds1 after.ds1 || falls before.ds0 after.ds0
 
+-- a data strobe rises
 abbrev pub strobe_rises : Sample → Sample → Bool
 strobe_rises before after = rises before.ds1 after.ds1 || rises before.ds0 after.ds0
 
@@ -40,5 +42,6 @@ strobe_rises before after = rises before.ds1 after.ds1 || rises before.ds0 after
 abbrev pub answer_falls : Sample → Sample → Bool
 answer_falls before after = falls before.dtack after.dtack || falls before.berr after.berr
 
+-- DTACK* or BERR* rises
 abbrev pub answer_rises : Sample → Sample → Bool
 answer_rises before after = rises before.dtack after.dtack || rises before.berr after.berr

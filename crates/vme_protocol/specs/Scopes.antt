@@ -9,6 +9,7 @@ abbrev pub in_model : Mode → Bool
 in_model Bus = false
 in_model Model = true
 
+-- the rules of this project's model are judged too
 abbrev pub is_strict : Scope → Bool
 is_strict scope = in_model scope.mode
 

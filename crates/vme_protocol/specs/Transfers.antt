@@ -15,21 +15,25 @@ abbrev pub is_row : Result CodeRow AmFault → Bool
 is_row (Ok row) = true
 is_row (Err fault) = false
 
+-- the row of a code is one of blocks
 abbrev pub is_block_row : Result CodeRow AmFault → Bool
 is_block_row (Ok row) = is_block row.kind
 is_block_row (Err fault) = false
 
+-- the row of a code is one of eight-byte data
 abbrev pub is_wide_row : Result CodeRow AmFault → Bool
 is_wide_row (Ok row) = row.wide
 is_wide_row (Err fault) = false
 
--- the same of a code; IEEE 1014-1987, 2.2.2 (address modifier lines)
+-- a code has a row in the table; IEEE 1014-1987, 2.2.2 (address modifier lines)
 abbrev pub has_row : ℕ → Bool
 has_row am = is_row (read_code am)
 
+-- a code is one of blocks
 abbrev pub is_block_code : ℕ → Bool
 is_block_code am = is_block_row (read_code am)
 
+-- a code is one of eight-byte data
 abbrev pub is_wide_code : ℕ → Bool
 is_wide_code am = is_wide_row (read_code am)
 

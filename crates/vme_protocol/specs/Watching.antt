@@ -61,9 +61,11 @@ first_of tests = option_map (λ t. t.0) (find (λ t. t.1) tests)
 unfoldable pub lines_broken : Watch → Transfer → Sample → Option Rule
 lines_broken w t s = first_of (lines_tests w t s)
 
+-- the first rule of the handshake that a sample breaks
 unfoldable pub handshake_broken : Watch → Transfer → Sample → Option Rule
 handshake_broken w t s = first_of (handshake_tests w t s)
 
+-- the first rule of transfers that a sample breaks
 unfoldable pub transfer_broken : Watch → Transfer → Sample → Option Rule
 transfer_broken w t s = first_of (transfer_tests w t s)
 
@@ -110,6 +112,7 @@ abbrev pub answer_by : Option Rule → Option Datum → Result (Option Datum) Ru
 answer_by None datum = Ok datum
 answer_by (Some rule) datum = Err rule
 
+-- the rule that a sample breaks, or the datum that it shows
 abbrev pub answer_of : Watch → Sample → Result (Option Datum) Rule
 answer_of w s = answer_by (broken w s) (shown w s)
 
@@ -118,5 +121,6 @@ abbrev pub next_by : Option Rule → Watch → Watch → Watch
 next_by None before after = after
 next_by (Some rule) before after = before
 
+-- the watch after a sample, which stays as it is if the sample breaks a rule
 abbrev pub next_watch : Watch → Sample → Watch
 next_watch w s = next_by (broken w s) w (watched w s)

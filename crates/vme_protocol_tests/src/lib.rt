@@ -1,5 +1,5 @@
 //! Tests of the protocol of traces, through its public functions: a course of samples that breaks no
-//! rule, and the same with one line edited in some of them, which breaks one rule. They are a crate of
+//! rule, and its copies with one line edited in some of them, which breaks one rule. They are a crate of
 //! their own, so that no crate with tests is proved twice.
 #![tactic(auto)]
 

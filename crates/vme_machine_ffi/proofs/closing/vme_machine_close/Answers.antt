@@ -10,8 +10,8 @@ close-requires-clause-capacity c =
     let values : List Processor = values_of c.take_all.new.boxes.items in
     let given = c.requires values (sym (c.if-not-take_all.ensures.all refl)) in
     let most : given.0.objects ≤ 64 = given.0.most in
-    let room = c.in-Ok.ensures.homes.1 in
-    (given.0, subst (All (IsOf given.0)) (sym c.unbox.ensures) given.1, omega (arith, most, room))
+    let capacity = c.in-Ok.ensures.homes.1 in
+    (given.0, subst (All (IsOf given.0)) (sym c.unbox.ensures) given.1, omega (arith, most, capacity))
 
 pub returns-in-Ok-close-clause-settled : goal.returns-in-Ok-close-clause-settled
 returns-in-Ok-close-clause-settled c = λ machine are zero.
