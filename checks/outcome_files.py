@@ -42,6 +42,9 @@ def mailbox(tries):
     return head + BOARD.format(1, 0, "put 1 00000007").replace("size = 16", "size = 32") + BOARD.format(2, 4096, "take 1")
 
 
+MILLION = locks(1_000_000)
+
+
 def orders(counts):
     """The number of orders of so many steps of each processor."""
     return math.factorial(sum(counts)) // math.prod(map(math.factorial, counts))
@@ -58,9 +61,15 @@ FILES = {
     # Attempts that fail are not counted: the same states with 2 tries and with 300. With as many lines as tries they are.
     "a lock, 2 tries": (locks(2), 6, 249, None),
     "a lock, 300 tries": (locks(300), 6, 249, None),
+<<<<<<< ours
     "a mailbox, 1 try": (mailbox(1), 4, 33, None),
+=======
+    "a lock, 1000000 tries": (MILLION, 6, 249, None),
+    "a mailbox, 1 try": (mailbox(1), 4, 171, None),
+>>>>>>> theirs
     "a mailbox, 3 tries": (mailbox(3), 4, 192, None),
     "a mailbox, 300 tries": (mailbox(300), 4, 192, None),
+    "a mailbox, 1000000 tries": (mailbox(1_000_000), 4, 192, None),
     "four counters to 6": (counters(4, 6), 1, 2401, 24),
     "three counters to 3": (counters(3, 3), 1, 64, 9),
     "a counter to 255": (counters(1, 255), 1, 256, 255),

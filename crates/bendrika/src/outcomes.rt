@@ -12,14 +12,10 @@ use vme_check::shown_name;
 use vme_engines::ProgramFault;
 use vme_io::{Io, SliceSource};
 use vme_outcome_listing::{Asked, Condition, Form, Kept, Kind, OutcomesFault, outcomes_engine};
-use vme_script::{Config, ConfigFault, Line};
+use vme_script::{Config, ConfigFault};
 
 /// The numbers of states at which a search says how far it is, if the words ask for it.
 const STAGES: [usize; 4] = [10_000, 100_000, 1_000_000, 10_000_000];
-
-/// The most attempts of a line that a search follows in a row: an outcome then takes at most some
-/// milliseconds.
-const MANY: u32 = 10_000;
 
 /// The conditions that the words state, each with its text.
 #[derive(Drop)]
@@ -118,9 +114,7 @@ fn list_file(
         Some(bytes) => bytes as u64,
         None => free_bytes(rt)?,
     };
-    let Some(fitting) = states_of_file(rt.alloc(), file, bytes)? else {
-        return refuse_attempts(rt, name, json);
-    };
+    let fitting = states_of_file(rt.alloc(), file, bytes)?;
     let limit = asked.limit;
     let asked = &asked.within(limit.min(fitting));
     let search = Search {
@@ -181,52 +175,13 @@ fn report_limit(rt: &HostRuntime, limit: usize, bytes: Option<u64>) {
     );
 }
 
-/// Ends a search whose lines may make more attempts than it follows in a row.
-fn refuse_attempts(rt: &HostRuntime, name: &str, json: bool) -> Result<Status, Fault> {
-    if json {
-        printed(rt, json_limit(rt.alloc(), name, 0)?.as_str())?;
-    }
-    let name = shown_name(rt.alloc(), name)?;
-    let most = MANY;
-    let _ = eprintln!(rt;
-        "bendrika: {name}: a line may make more than {most} attempts: set a smaller `tries` in the file"
-    );
-    Ok(Status::Limit)
-}
-
-/// Returns whether a line may make more attempts than a search follows in a row.
-fn has_many_attempts(config: &Config) -> bool {
-    if config.tries() <= MANY {
-        return false;
-    }
-    for board in 0..config.boards() {
-        let script = config.script(board);
-        for line in 0..script.len() {
-            if let Line::Await { .. }
-            | Line::Lock { .. }
-            | Line::Put { .. }
-            | Line::Take { .. } = script.line(line)
-            {
-                return true;
-            }
-        }
-    }
-    false
-}
-
-/// Returns how many states of a configuration file fit in so many bytes, or `None` if a line may make
-/// too many attempts; any number, if the file is no configuration, which the search reports.
-fn states_of_file(alloc: Global, file: &[u8], bytes: u64) -> Result<Option<usize>, AllocError> {
+/// Returns how many states of a configuration file fit in so many bytes; any number, if the file is no
+/// configuration, which the search reports.
+fn states_of_file(alloc: Global, file: &[u8], bytes: u64) -> Result<usize, AllocError> {
     match Config::read(alloc, file) {
-        Ok(config) => {
-            if has_many_attempts(&config) {
-                return Ok(None);
-            }
-            let states = states_within(alloc, &config, bytes)?;
-            Ok(Some(states))
-        }
+        Ok(config) => states_within(alloc, &config, bytes),
         Err(ConfigFault::OutOfMemory) => Err(AllocError),
-        Err(_) => Ok(Some(usize::MAX)),
+        Err(_) => Ok(usize::MAX),
     }
 }
 

@@ -7,6 +7,12 @@ use vme_explain::write_escaped;
 /// What a line of the schedule of an outcome begins with.
 const SCHEDULE: &str = "schedule = ";
 
+/// What comes before the tries of an outcome.
+const TRIES: &str = "tries = ";
+
+/// What comes before the number of an outcome whose schedule has more turns than a file may state.
+const LONG: &str = "; found no schedule of at most 1000000 turns for outcome ";
+
 /// The objects that have been written, and how far the current outcome has come.
 #[derive(Drop)]
 struct Objects<'a> {
@@ -15,6 +21,8 @@ struct Objects<'a> {
     number: usize,
     /// Whether the lines of an outcome are being read.
     inside: bool,
+    /// Whether the member of the replies has begun in the current outcome.
+    has_replies: bool,
     /// Whether the current object has a member already.
     has_member: bool,
     /// The slot of the last row of memory, if the outcome has one.
@@ -27,6 +35,7 @@ pub(crate) fn json_of(alloc: Global, name: &str, text: &str) -> Result<String, A
         to: String::new(alloc),
         number: 0,
         inside: false,
+        has_replies: false,
         has_member: false,
         slot: None,
     };
@@ -57,6 +66,11 @@ impl<'a> Objects<'a> {
                 None => self.ending(name, line),
             };
         }
+        if let Some(tries) = line.strip_prefix(TRIES) {
+            write!(self.to, ",\"tries\":{tries}")?;
+            return Ok(());
+        }
+        self.begin_replies()?;
         if line.is_empty() {
             return self.end();
         }
@@ -69,12 +83,21 @@ impl<'a> Objects<'a> {
     /// Begins an outcome with its schedule.
     fn begin(&mut self, schedule: &str) -> Result<(), AllocError> {
         self.inside = true;
+        self.has_replies = false;
         self.has_member = false;
         self.slot = None;
         self.number = self.number.saturating_add(1);
         let number = self.number;
         write!(self.to, "{{\"outcome\":{number},\"schedule\":")?;
-        push_schedule(schedule, &mut self.to)?;
+        push_schedule(schedule, &mut self.to)
+    }
+
+    /// Begins the replies of an outcome, unless they have begun.
+    fn begin_replies(&mut self) -> Result<(), AllocError> {
+        if self.has_replies {
+            return Ok(());
+        }
+        self.has_replies = true;
         self.to.push_str(",\"replies\":{")
     }
 
@@ -134,14 +157,21 @@ impl<'a> Objects<'a> {
             None => self.to.push_str("\",\"holds\":true}\n"),
             Some((_fails, schedule)) => {
                 self.to.push_str("\",\"holds\":false,\"schedule\":")?;
-                push_schedule(schedule, &mut self.to)?;
+                match schedule.split_once(", tries = ") {
+                    None => push_schedule(schedule, &mut self.to)?,
+                    Some((schedule, tries)) => {
+                        push_schedule(schedule, &mut self.to)?;
+                        write!(self.to, ",\"tries\":{tries}")?;
+                    }
+                }
                 self.to.push_str("}\n")
             }
         }
     }
 
-    /// Adds the numbers of outcomes and of states.
+    /// Adds the numbers of outcomes and of states, and of the outcomes whose schedule has more turns than a file may state.
     fn summary(&mut self, name: &str, line: &str) -> Result<(), AllocError> {
+        let (line, long) = line.split_once(LONG).unwrap_or((line, ""));
         let (outcomes, states) = line.split_once(", ").unwrap_or((line, ""));
         let outcomes = first_word(outcomes);
         let states = first_word(states);
@@ -149,8 +179,14 @@ impl<'a> Objects<'a> {
         write_escaped(name, &mut self.to)?;
         write!(
             self.to,
-            "\",\"outcomes\":{outcomes},\"states\":{states},\"complete\":true,\"version\":\"{VERSION}\"}}\n"
-        )
+            "\",\"outcomes\":{outcomes},\"states\":{states},\"complete\":true"
+        )?;
+        if !long.is_empty() {
+            self.to.push_str(",\"unstated\":[")?;
+            push_numbers(long, &mut self.to)?;
+            self.to.push(']')?;
+        }
+        write!(self.to, ",\"version\":\"{VERSION}\"}}\n")
     }
 
     /// Adds a comma behind a member.
@@ -178,6 +214,17 @@ fn push_member(name: &str, value: &str, to: &mut String) -> Result<(), AllocErro
     to.push_str("\":\"")?;
     to.push_str(value)?;
     to.push('"')
+}
+
+/// Adds the numbers of outcomes whose schedule has more turns than a file may state.
+fn push_numbers(long: &str, to: &mut String) -> Result<(), AllocError> {
+    let mut rest = long;
+    while let Some((number, more)) = rest.split_once(LONG) {
+        to.push_str(number)?;
+        to.push(',')?;
+        rest = more;
+    }
+    to.push_str(rest)
 }
 
 /// Adds a schedule, without the spaces of TOML.

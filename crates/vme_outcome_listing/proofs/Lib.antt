@@ -1,6 +1,7 @@
 pub mod Texts
 pub mod Listings
 pub mod Outputs
+pub mod Longs
 pub mod Written
 pub mod Places
 pub mod Claims

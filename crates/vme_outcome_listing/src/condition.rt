@@ -3,7 +3,7 @@ ghost use Rattle.std.specs.Prelude.{◌≡◌, ◌<◌, ◌++◌, IfOk, OnOk, ma
 ghost use Rattle.vme_outcome_listing.specs.Conditions.{kind_text, wanted_text, verdict_text, trimmed_parts};
 ghost use Rattle.vme_grammar.specs.Texts.{output_line};
 
-use crate::print::append_schedule;
+use crate::print::{append_schedule, append_tries_after};
 use std::alloc::{AllocError, Global};
 use std::marker::Model;
 use vme_states::ListedOutcome;
@@ -131,6 +131,7 @@ fn append_verdict(breaking: Option<&ListedOutcome>, text: &mut Vec<u8>) -> Resul
         Some(outcome) => {
             text.extend_from_slice(b": fails, ")?;
             append_schedule(outcome.schedule(), text)?;
+            append_tries_after(outcome.tries(), text)?;
             text.extend_from_slice(b"\n")
         }
     }

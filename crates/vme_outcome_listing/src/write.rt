@@ -55,7 +55,7 @@ fn append_ending(
         (map shown listing.now.paragraphs.items) states) }
 {
     text.extend_from_slice(listing.answers.as_slice())?;
-    append_summary(output.some, listing.paragraphs.len(), states, text)
+    append_summary(output.some, listing.paragraphs.as_slice(), states, text)
 }
 
 /// Returns the paragraphs to write.
