@@ -61,12 +61,8 @@ FILES = {
     # Attempts that fail are not counted: the same states with 2 tries and with 300. With as many lines as tries they are.
     "a lock, 2 tries": (locks(2), 6, 249, None),
     "a lock, 300 tries": (locks(300), 6, 249, None),
-<<<<<<< ours
-    "a mailbox, 1 try": (mailbox(1), 4, 33, None),
-=======
     "a lock, 1000000 tries": (MILLION, 6, 249, None),
-    "a mailbox, 1 try": (mailbox(1), 4, 171, None),
->>>>>>> theirs
+    "a mailbox, 1 try": (mailbox(1), 4, 33, None),
     "a mailbox, 3 tries": (mailbox(3), 4, 192, None),
     "a mailbox, 300 tries": (mailbox(300), 4, 192, None),
     "a mailbox, 1000000 tries": (mailbox(1_000_000), 4, 192, None),
