@@ -218,13 +218,23 @@ fn push_member(name: &str, value: &str, to: &mut String) -> Result<(), AllocErro
 
 /// Adds the numbers of outcomes whose schedule has more turns than a file may state.
 fn push_numbers(long: &str, to: &mut String) -> Result<(), AllocError> {
-    let mut rest = long;
-    while let Some((number, more)) = rest.split_once(LONG) {
-        to.push_str(number)?;
-        to.push(',')?;
-        rest = more;
+    let mut is_first = true;
+    for part in long.split(';') {
+        if !is_first {
+            to.push(',')?;
+        }
+        is_first = false;
+        to.push_str(number_of(part))?;
     }
-    to.push_str(rest)
+    Ok(())
+}
+
+/// Returns the number of an outcome in a part of the last line, which ends with it.
+fn number_of(part: &str) -> &str {
+    match part.split_once("outcome ") {
+        Some((_words, number)) => number,
+        None => part,
+    }
 }
 
 /// Adds a schedule, without the spaces of TOML.
