@@ -1,5 +1,5 @@
 -- The state and the replies of an arbiter, as C has them.
-use Rattle.std.specs.Prelude.{◌≡◌, ℕ, ◌==◌, if◌then◌else◌, map, is_some, Option, Some, None}
+use Rattle.std.specs.Prelude.{◌≡◌, ℕ, map, is_some, Option, Some, None}
 use Rattle.std.specs.Option.{option_map_or}
 use Rattle.vme_arbiter.specs.declared.command.ArbReply.{ArbReply}
 use Rattle.vme_arbiter.specs.declared.command.ArbReply.TheVariants.{Granted, Waiting, Freed, Denied}
@@ -9,11 +9,9 @@ use Rattle.vme_arbiter.specs.declared.state.ArbiterState.{ArbiterState}
 use Rattle.vme_arbiter.specs.Arbitration.{Arbitration}
 use Rattle.vme_arbiter.specs.States.{bus_from_state}
 use Rattle.vme_ffi.specs.declared.arbiter.VmeArbiter.{VmeArbiter}
-use Rattle.vme_ffi.specs.Data.{level_of, level_number, lane_of, lane_number}
-
--- the kind of arbiter that a number selects
-abbrev pub kind_of : ℕ → ArbiterKind
-kind_of n = if n == 0 then Priority else Rotating
+use Rattle.vme_c_types.specs.Boards.{kind_of}
+use Rattle.vme_c_types.specs.Data.{level_of}
+use Rattle.vme_ffi.specs.Data.{level_number, lane_of, lane_number}
 
 -- the number that the library writes for a kind of arbiter
 abbrev pub kind_number : ArbiterKind → ℕ

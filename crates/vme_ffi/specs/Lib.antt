@@ -5,6 +5,5 @@ pub mod Lines
 pub mod Requests
 pub mod Boards
 pub mod Slices
-pub mod Maps
 pub mod Arbiters
 pub mod Fills

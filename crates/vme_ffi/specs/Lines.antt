@@ -7,7 +7,8 @@ use Rattle.vme_am.specs.Spaces.{addresses_of}
 use Rattle.vme_lanes.specs.Rows.{location_sensed}
 use Rattle.vme_cycle.specs.SignalLines.{SignalLines, row_len}
 use Rattle.vme_ffi.specs.declared.lines.VmeLines.{VmeLines}
-use Rattle.vme_ffi.specs.Data.{level_of, level_number, lane_of, lane_number}
+use Rattle.vme_c_types.specs.Data.{level_of}
+use Rattle.vme_ffi.specs.Data.{level_number, lane_of, lane_number}
 use Rattle.vme_ffi.specs.Tables.{strobes_of, strobes_struct}
 
 -- the lines of a cycle with the row of its code

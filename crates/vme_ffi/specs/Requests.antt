@@ -1,21 +1,12 @@
 -- The requests of a master, as C has them.
 use Rattle.std.specs.Prelude.{ℕ, Bool, ◌==◌, ◌&&◌, if◌then◌else◌, List, length, is_some, Option, Some, None}
 use Rattle.vme_cycle.specs.declared.modify.Modify as functions
-use Rattle.vme_cycle.specs.declared.modify.Modify.TheVariants.{Set, Exchange, Add, Compare}
 use Rattle.vme_cycle.specs.declared.request.Request.{Request}
 use Rattle.vme_cycle.specs.declared.request.Request.TheVariants as requests
 use Rattle.vme_cycle.specs.Requests as parts
-use Rattle.vme_ffi.specs.declared.modify.VmeModify.{VmeModify}
-use Rattle.vme_ffi.specs.declared.request.VmeRequest.{VmeRequest}
-use Rattle.vme_ffi.specs.Data.{datum_of}
-
--- the function of a read-modify-write
-abbrev pub modify_of : VmeModify → functions.Modify
-modify_of f =
-    if f.function == 1 then Set else
-    (if f.function == 2 then Exchange (record { items = datum_of f.operand }) else
-    (if f.function == 3 then Add (record { items = datum_of f.operand }) else
-    Compare (record { items = datum_of f.operand }) (record { items = datum_of f.put })))
+use Rattle.vme_c_types.specs.declared.modify.VmeModify.{VmeModify}
+use Rattle.vme_c_types.specs.declared.request.VmeRequest.{VmeRequest}
+use Rattle.vme_c_types.specs.Data.{modify_of}
 
 -- the function of a cycle, if it is a read-modify-write
 abbrev pub function_of : VmeModify → Option functions.Modify

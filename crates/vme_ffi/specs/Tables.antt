@@ -8,7 +8,8 @@ use Rattle.vme_lanes.specs.declared.location.Strobes.{Strobes}
 use Rattle.vme_am.specs.Codes.{CodeRow}
 use Rattle.vme_ffi.specs.declared.tables.VmeAm.{VmeAm}
 use Rattle.vme_ffi.specs.declared.tables.VmeStrobes.{VmeStrobes}
-use Rattle.vme_ffi.specs.Data.{level_of, level_number}
+use Rattle.vme_c_types.specs.Data.{level_of}
+use Rattle.vme_ffi.specs.Data.{level_number}
 
 -- the number of a space: how many address lines count; IEEE 1014-1987, 2.3.5 (addressing)
 abbrev pub space_number : Space → ℕ

@@ -2,12 +2,14 @@
 ghost use Rattle.std.specs.Prelude.{◌≡◌, Some, None, IfSome, IfNone};
 ghost use Rattle.vme_arbiter.specs.declared.command.ArbCmd.TheVariants.{Ask, Look, Done};
 ghost use Rattle.vme_arbiter.specs.Arbitration.{opening_bus, arbiter_step};
-ghost use Rattle.vme_ffi.specs.Arbiters.{kind_of, kind_number, bus_of, reply_number, Exact, WritesState};
+ghost use Rattle.vme_c_types.specs.Boards.{kind_of};
+ghost use Rattle.vme_ffi.specs.Arbiters.{kind_number, bus_of, reply_number, Exact, WritesState};
 ghost use Rattle.vme_ffi.specs.Results.{bad_state};
 
-use crate::datum::{lane_numbers, lanes_of, level_of};
+use crate::levels::{lane_numbers, lanes_of};
 use crate::results::BAD_STATE;
 use vme_arbiter::{ArbCmd, ArbReply, Arbiter, ArbiterKind, ArbiterState};
+use vme_c_types::{kind_of, level_of};
 use vme_object::Object;
 
 /// The state of an arbiter.
@@ -24,17 +26,6 @@ pub struct VmeArbiter {
     pub holder: u16,
     /// By slot: the level of its pending request, 0 to 3, or a number above 255 if it has none.
     pub levels: [u16; 22],
-}
-
-/// The kind of arbiter that a number selects.
-fn kind_of(kind: u8) -> ArbiterKind
-    ensures { result ≡ kind_of kind }
-{
-    if kind == 0 {
-        ArbiterKind::Priority
-    } else {
-        ArbiterKind::Rotating
-    }
 }
 
 /// The number of a kind of arbiter.

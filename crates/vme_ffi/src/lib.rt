@@ -7,8 +7,8 @@
 #![tactic(auto)]
 
 mod arbiter;
-mod datum;
 mod laws;
+mod levels;
 mod lines;
 mod local;
 mod map;

@@ -2,14 +2,16 @@
 ghost use Rattle.std.specs.Prelude.{◌≡◌, ◌%◌, ◌<◌, ◌≤◌, length, IsTrue, IsFalse, IfSome, IfNone};
 ghost use Rattle.vme_am.specs.Spaces.{addresses_of};
 ghost use Rattle.vme_cycle.specs.SignalLines.{answered_lines};
-ghost use Rattle.vme_ffi.specs.Data.{datum_of};
+ghost use Rattle.vme_c_types.specs.Data.{datum_of};
 ghost use Rattle.vme_ffi.specs.Lines.{sensed, cycle_shown, selects, lines_struct, Shows};
-ghost use Rattle.vme_ffi.specs.Results.{ok, bad_lines, bad_call};
+ghost use Rattle.vme_c_types.specs.Results.{ok, bad_call};
+ghost use Rattle.vme_ffi.specs.Results.{bad_lines};
 
-use crate::datum::{VmeDatum, datum_of, lane_numbers, lanes_of, level_number, level_of};
-use crate::results::{BAD_CALL, BAD_LINES, OK};
+use crate::levels::{lane_numbers, lanes_of, level_number};
+use crate::results::BAD_LINES;
 use crate::tables::{VmeStrobes, strobes_from, strobes_of};
 use vme_am::Am;
+use vme_c_types::{BAD_CALL, OK, VmeDatum, datum_of, level_of};
 use vme_cycle::Signals;
 use vme_lanes::DataLines;
 

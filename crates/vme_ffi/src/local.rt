@@ -4,14 +4,12 @@ ghost use Rattle.vme_memory.specs.declared.class.Class.{Class as BoardClass};
 ghost use Rattle.vme_memory.specs.Steps as Steps;
 ghost use Rattle.vme_memory.specs.Steps.{step};
 ghost use Rattle.vme_ffi.specs.Slices.{board_of};
-ghost use Rattle.vme_ffi.specs.Data.{datum_of};
-ghost use Rattle.vme_ffi.specs.Requests.{modify_of};
+ghost use Rattle.vme_c_types.specs.Data.{datum_of, modify_of};
 ghost use Rattle.vme_ffi.specs.Boards.{result_of, Writes};
 
-use crate::datum::{VmeDatum, bytes_of};
-use crate::modify::{VmeModify, modify_of};
 use crate::slave::local_port::{local_modify, local_read, local_write};
 use crate::slave::{result_of, write_reply};
+use vme_c_types::{VmeDatum, VmeModify, bytes_of, modify_of};
 
 /// Replies to a read of `n` bytes, 1, 2 or 4, at offset `at` by the local port. Returns `OK` and
 /// writes the bytes, or `BUS_ERROR`.

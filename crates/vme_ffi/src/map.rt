@@ -3,12 +3,12 @@ ghost use Rattle.std.specs.Prelude.{◌≡◌, ◌↔◌, map, None, Some, IsOk,
 ghost use Rattle.vme_am.specs.Codes.{read_code};
 ghost use Rattle.vme_decode.specs.Lawful.{first_refusal};
 ghost use Rattle.vme_decode.specs.Select.{selection_at};
-ghost use Rattle.vme_ffi.specs.Maps.{space_of, entry_of};
-ghost use Rattle.vme_ffi.specs.Results.{ok, no_board, code_refusal_number, map_result};
+ghost use Rattle.vme_c_types.specs.Boards.{entry_of};
+ghost use Rattle.vme_c_types.specs.Results.{ok, no_board, code_refusal_number};
+ghost use Rattle.vme_ffi.specs.Results.{map_result};
 
-use crate::datum::level_of;
-use crate::results::{NO_BOARD, OK, code_refusal_number, map_refusal_number};
 use vme_am::{Am, Space};
+use vme_c_types::{NO_BOARD, OK, VmeEntry, code_refusal_number, entry_of, map_refusal_number};
 use vme_decode::{Entry, MapFault, check};
 
 /// The greatest number of entries of a map: one for each slot of a backplane.
@@ -22,20 +22,6 @@ const EMPTY: Entry = Entry {
     supervisory: false,
 };
 
-/// The addresses at which one board responds: IEEE 1014-1987, 2.3.5 (addressing).
-#[repr(C)]
-#[derive(Clone, Copy)]
-pub struct VmeEntry {
-    /// The first address.
-    pub base: u32,
-    /// The number of bytes. An entry of size 0 covers no address.
-    pub size: u32,
-    /// The address space: 16, 24 or 32. Another number counts as the next one below, or as 16.
-    pub space: u8,
-    /// Whether only supervisory codes are admitted.
-    pub supervisory: u8,
-}
-
 /// The selected entry, and the offset in it.
 #[repr(C)]
 #[derive(Clone, Copy)]
@@ -44,31 +30,6 @@ pub struct VmeSelection {
     pub place: usize,
     /// The offset of the address from the entry's base.
     pub offset: u32,
-}
-
-/// The address space that a number selects: 16, 24 or 32, or the next one below.
-fn space_of(number: u8) -> Space
-    ensures { result ≡ space_of number }
-{
-    if number < 24 {
-        Space::A16
-    } else if number < 32 {
-        Space::A24
-    } else {
-        Space::A32
-    }
-}
-
-/// The entry that a struct stands for.
-fn entry_of(entry: &VmeEntry) -> Entry
-    ensures { result ≡ entry_of entry.now }
-{
-    Entry {
-        space: space_of(entry.space),
-        base: entry.base,
-        size: entry.size,
-        supervisory: level_of(entry.supervisory),
-    }
 }
 
 /// Checks that the entries are a lawful map.

@@ -3,36 +3,17 @@ ghost use Rattle.std.specs.Prelude.{◌≡◌, ◌<◌, ◌≤◌, IfOk, IfErr, 
 ghost use Rattle.vme_cycle.specs.Lawful.{first_refusal, transfer_of};
 ghost use Rattle.vme_cycle.specs.Plans.{signals_of, write_half_of};
 ghost use Rattle.vme_cycle.specs.Requests.{count_of};
-ghost use Rattle.vme_ffi.specs.Data.{datum_of};
+ghost use Rattle.vme_c_types.specs.Data.{datum_of};
+ghost use Rattle.vme_c_types.specs.Results.{ok, bad_call, refusal_number};
 ghost use Rattle.vme_ffi.specs.Requests.{request_of, is_modified};
 ghost use Rattle.vme_ffi.specs.Lines.{lines_struct, Shows};
-ghost use Rattle.vme_ffi.specs.Results.{ok, bad_call, refusal_number, request_result};
+ghost use Rattle.vme_ffi.specs.Results.{request_result};
 
-use crate::datum::{VmeDatum, datum_of};
 use crate::lines::{VmeLines, lines_from};
-use crate::modify::{VmeModify, modify_of};
-use crate::results::{BAD_CALL, OK, refusal_number};
 use std::mem;
+use vme_c_types::{BAD_CALL, OK, VmeDatum, VmeRequest, datum_of, modify_of, refusal_number};
 use vme_cycle::{Plan, Request};
 use vme_lanes::Datum;
-
-/// A request of a master to the bus.
-#[repr(C)]
-#[derive(Clone, Copy)]
-pub struct VmeRequest {
-    /// The address of the first byte.
-    pub addr: u32,
-    /// The number of data of a block, 1 to 256. Other requests ignore it.
-    pub count: u16,
-    /// The address modifier code.
-    pub am: u8,
-    /// 0: read. 1: write. 2: block read. 3: block write. Every other number: read-modify-write.
-    pub kind: u8,
-    /// The number of bytes of each datum. A write uses the length of its datum instead.
-    pub n: u8,
-    /// The function of a read-modify-write.
-    pub f: VmeModify,
-}
 
 /// The request that a struct stands for, with the datum that it writes.
 fn request_of(request: &VmeRequest, datum: &VmeDatum) -> Request

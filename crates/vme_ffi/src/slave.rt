@@ -6,10 +6,11 @@ ghost use Rattle.std.specs.Prelude.{◌≡◌, IfSome, IfNone};
 ghost use Rattle.vme_memory.specs.Steps as Steps;
 ghost use Rattle.vme_memory.specs.Steps.{cycle, step, read_command, write_command};
 ghost use Rattle.vme_ffi.specs.Slices.{board_of};
-ghost use Rattle.vme_ffi.specs.Data.{level_of, datum_of};
-ghost use Rattle.vme_ffi.specs.Requests.{modify_of, function_of};
+ghost use Rattle.vme_c_types.specs.Boards.{class_of};
+ghost use Rattle.vme_c_types.specs.Data.{level_of, datum_of, modify_of};
+ghost use Rattle.vme_ffi.specs.Requests.{function_of};
 ghost use Rattle.vme_ffi.specs.Lines.{cycle_shown};
-ghost use Rattle.vme_ffi.specs.Boards.{class_of, result_of, Writes};
+ghost use Rattle.vme_ffi.specs.Boards.{result_of, Writes};
 ghost use Rattle.vme_ffi.specs.Results.{bad_lines};
 
 mod access;
@@ -17,47 +18,16 @@ mod bytes;
 mod cycle;
 pub(crate) mod local_port;
 
-use crate::datum::{VmeDatum, bytes_of, datum_from, level_of};
 use crate::lines::{VmeLines, signals_of};
-use crate::modify::{VmeModify, function_of, modify_of};
-use crate::results::{BAD_LINES, BUS_ERROR, OK};
+use crate::modify::function_of;
+use crate::results::BAD_LINES;
 use crate::slave::access::{bytes_read, modify, write};
 use crate::slave::cycle::cycle;
-use vme_memory::{Class, Reply, Width8To32};
-
-/// The cycles to which the slave of a board replies.
-#[repr(C)]
-#[derive(Clone, Copy)]
-pub struct VmeClass {
-    /// The data width: 8 is D08(EO), 16 is D16 and 32 is D32. Another number counts as the next one
-    /// below, or as 8.
-    pub width: u8,
-    /// Unaligned cycles.
-    pub uat: u8,
-    /// Block transfers.
-    pub blt: u8,
-    /// Read-modify-write cycles.
-    pub rmw: u8,
-}
-
-/// The class of a board.
-fn class_of(class: &VmeClass) -> Class
-    ensures { result ≡ class_of class.now }
-{
-    let width = if class.width < 16 {
-        Width8To32::D08
-    } else if class.width < 32 {
-        Width8To32::D16
-    } else {
-        Width8To32::D32
-    };
-    Class {
-        width,
-        uat: level_of(class.uat),
-        blt: level_of(class.blt),
-        rmw: level_of(class.rmw),
-    }
-}
+use vme_c_types::{
+    BUS_ERROR, OK, VmeClass, VmeDatum, VmeModify, bytes_of, class_of, datum_from, level_of,
+    modify_of,
+};
+use vme_memory::{Class, Reply};
 
 /// Writes the bytes of a reply unless it is a bus error, and returns its result.
 pub(crate) fn write_reply(reply: &Reply, out: &mut VmeDatum) -> u8

@@ -2,14 +2,16 @@
 ghost use Rattle.std.specs.Prelude.{◌≡◌, IfSome, IfNone, IfOk, IfErr};
 ghost use Rattle.vme_am.specs.Codes.{read_code};
 ghost use Rattle.vme_lanes.specs.Rows.{row_of, location_at, location_sensed};
-ghost use Rattle.vme_ffi.specs.Data.{level_of};
+ghost use Rattle.vme_c_types.specs.Data.{level_of};
 ghost use Rattle.vme_ffi.specs.Tables.{space_number, kind_number, strobes_of, strobes_struct, am_struct};
-ghost use Rattle.vme_ffi.specs.Results.{ok, bad_lines, code_refusal_number, refusal_number};
+ghost use Rattle.vme_c_types.specs.Results.{ok, code_refusal_number, refusal_number};
+ghost use Rattle.vme_ffi.specs.Results.{bad_lines};
 ghost use Rattle.vme_cycle.specs.declared.fault.CycleFault.TheVariants.{NoCycle};
 
-use crate::datum::{level_number, level_of};
-use crate::results::{BAD_LINES, NO_CYCLE, OK, code_refusal_number};
+use crate::levels::level_number;
+use crate::results::BAD_LINES;
 use vme_am::{Am, Kind, Space};
+use vme_c_types::{NO_CYCLE, OK, code_refusal_number, level_of};
 use vme_lanes::{Location, Strobes};
 
 /// The row of an address modifier code: IEEE 1014-1987, 2.2.2 (address modifier lines).

@@ -14,15 +14,16 @@ use Rattle.vme_port_array.specs.Parts.{indexed, part}
 use Rattle.vme_processor.specs.declared.processor.Processor.{Processor}
 use Rattle.vme_machine_ffi.specs.declared.calls.Called.{Called}
 use Rattle.vme_machine_ffi.specs.declared.calls.Called.TheVariants as called
-use Rattle.vme_machine_ffi.specs.declared.datum.VmeDatum.{VmeDatum}
-use Rattle.vme_machine_ffi.specs.Data.{datum_of, datum_struct}
+use Rattle.vme_c_types.specs.declared.datum.VmeDatum.{VmeDatum}
+use Rattle.vme_c_types.specs.Data.{datum_of, datum_struct}
+use Rattle.vme_c_types.specs.Results as numbers
 use Rattle.vme_machine_ffi.specs.Results as results
 
 -- the number that a call returns
 abbrev pub number_of : Called → ℕ
-number_of (called.Reply (replies.Board (Bytes datum))) = results.ok
-number_of (called.Reply (replies.Board Done)) = results.ok
-number_of (called.Reply (replies.Board Berr)) = results.bus_error
+number_of (called.Reply (replies.Board (Bytes datum))) = numbers.ok
+number_of (called.Reply (replies.Board Done)) = numbers.ok
+number_of (called.Reply (replies.Board Berr)) = numbers.bus_error
 number_of (called.Reply (replies.Bus Granted)) = 0x30
 number_of (called.Reply (replies.Bus Waiting)) = 0x31
 number_of (called.Reply (replies.Bus Denied)) = 0x32

@@ -1,6 +1,4 @@
-pub mod Data
 pub mod Results
-pub mod Boards
 pub mod Structs
 pub mod Buffers
 pub mod Calls

@@ -7,7 +7,7 @@ use Rattle.vme_processor.specs.declared.processor.Processor.{Processor}
 use Rattle.vme_processor.specs.Processors.{Machine, objects_at_first, members_of}
 use Rattle.vme_machine_ffi.specs.declared.board.VmeBoard.{VmeBoard}
 use Rattle.vme_machine_ffi.specs.declared.handle.VmeProcessor.{VmeProcessor}
-use Rattle.vme_machine_ffi.specs.Boards.{class_of, kind_of}
+use Rattle.vme_c_types.specs.Boards.{class_of, kind_of}
 use Rattle.vme_machine_ffi.specs.Structs.{processors_in, full}
 
 -- the memory of a board before anything is written

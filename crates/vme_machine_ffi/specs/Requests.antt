@@ -2,10 +2,10 @@
 use Rattle.std.specs.Prelude.{ℕ, ◌≡◌, ◌⊎◌, ◌==◌, if◌then◌else◌, List, Result, Ok, Err}
 use Rattle.vme_cycle.specs.declared.request.Request.{Request}
 use Rattle.vme_cycle.specs.declared.request.Request.TheVariants as requests
-use Rattle.vme_machine_ffi.specs.declared.modify.VmeModify.{VmeModify}
-use Rattle.vme_machine_ffi.specs.declared.request.VmeRequest.{VmeRequest}
-use Rattle.vme_machine_ffi.specs.Data.{modify_of}
-use Rattle.vme_machine_ffi.specs.Results.{no_memory}
+use Rattle.vme_c_types.specs.declared.modify.VmeModify.{VmeModify}
+use Rattle.vme_c_types.specs.declared.request.VmeRequest.{VmeRequest}
+use Rattle.vme_c_types.specs.Data.{modify_of}
+use Rattle.vme_c_types.specs.Results.{no_memory}
 
 -- the request of a read
 abbrev pub read_request : VmeRequest → Request

@@ -13,18 +13,19 @@ use Rattle.vme_processor.specs.declared.processor.Processor.{Processor}
 use Rattle.vme_processor.specs.declared.transfer.StepFault.{StepFault}
 use Rattle.vme_processor.specs.declared.transfer.StepFault.TheVariants.{Busy, Spent, NoBoard}
 use Rattle.vme_processor.specs.Transfers.{WasBusy, Steps, Starts, outcome_of}
+use Rattle.vme_c_types.specs.Results as numbers
 use Rattle.vme_machine_ffi.specs.Results as results
 
 -- a start of a request, or of none because of a number
 abbrev pub StartsAs : Result Request ℕ → ℕ → Processor → Processor → Type 0
-StartsAs (Ok request) result p q = ((result ≡ results.ok) × Starts request p q)
-    ⊎ (((fault : CycleFault) × (transfer_of request ≡ Err fault) × (result ≡ results.refusal_number fault) × (q ≡ p))
-    ⊎ ((result ≡ results.bad_call) × (q ≡ p)))
+StartsAs (Ok request) result p q = ((result ≡ numbers.ok) × Starts request p q)
+    ⊎ (((fault : CycleFault) × (transfer_of request ≡ Err fault) × (result ≡ numbers.refusal_number fault) × (q ≡ p))
+    ⊎ ((result ≡ numbers.bad_call) × (q ≡ p)))
 StartsAs (Err number) result p q = (result ≡ number) × (q ≡ p)
 
 -- the number of a step after which a transfer goes on, by the reply to its event
 abbrev pub Continues : Option EventReply → ℕ → Type 0
-Continues None result = result ≡ results.bad_call
+Continues None result = result ≡ numbers.bad_call
 Continues (Some (replies.Bus Waiting)) result = result ≡ results.waiting
 Continues (Some (replies.Bus Granted)) result = result ≡ results.more
 Continues (Some (replies.Bus Denied)) result = result ≡ results.more
@@ -33,10 +34,10 @@ Continues (Some (replies.Board reply)) result = result ≡ results.more
 
 -- the number of a step by the outcome of the transfer, if it has ended
 abbrev pub Ends : Option Outcome → Option EventReply → ℕ → Type 0
-Ends (Some (outcomes.Read bytes)) reply result = result ≡ results.ok
-Ends (Some outcomes.Done) reply result = result ≡ results.ok
-Ends (Some (outcomes.Old bytes)) reply result = result ≡ results.ok
-Ends (Some (outcomes.Berr count bytes)) reply result = (result ≡ results.bus_error) ⊎ (result ≡ results.no_board)
+Ends (Some (outcomes.Read bytes)) reply result = result ≡ numbers.ok
+Ends (Some outcomes.Done) reply result = result ≡ numbers.ok
+Ends (Some (outcomes.Old bytes)) reply result = result ≡ numbers.ok
+Ends (Some (outcomes.Berr count bytes)) reply result = (result ≡ numbers.bus_error) ⊎ (result ≡ numbers.no_board)
 Ends (Some outcomes.Denied) reply result = result ≡ results.denied
 Ends None reply result = Continues reply result
 
@@ -74,5 +75,5 @@ bytes_of None = []
 -- a copy of bytes to the head of a buffer, if they fit, and their number in any case
 pub record Copies (bytes old new : List ℕ) (count result : ℕ) : Type 0 where
   pub number : count ≡ length bytes
-  pub fits : length bytes ≤ length old → (result ≡ results.ok) × (new ≡ bytes ++ drop (length bytes) old)
-  pub short : length old < length bytes → (result ≡ results.bad_call) × (new ≡ old)
+  pub fits : length bytes ≤ length old → (result ≡ numbers.ok) × (new ≡ bytes ++ drop (length bytes) old)
+  pub short : length old < length bytes → (result ≡ numbers.bad_call) × (new ≡ old)

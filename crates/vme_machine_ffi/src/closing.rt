@@ -2,14 +2,16 @@
 ghost use Rattle.std.specs.Prelude.{◌≡◌};
 ghost use Rattle.vme_processor.specs.Processors.{Machine};
 ghost use Rattle.vme_machine_ffi.specs.Closings.{AreOf, AreOfOne, HasSettled};
-ghost use Rattle.vme_machine_ffi.specs.Results.{ok, bad_call, closed, no_memory};
+ghost use Rattle.vme_c_types.specs.Results.{ok, bad_call, no_memory};
+ghost use Rattle.vme_machine_ffi.specs.Results.{closed};
 ghost use Rattle.vme_machine_ffi.specs.Structs.{processors_in};
 
 use crate::buffers::Buffers;
 use crate::handle::VmeProcessor;
-use crate::results::{BAD_CALL, BAD_STATE, CLOSED, NO_MEMORY, OK};
+use crate::results::{BAD_STATE, CLOSED};
 use crate::structs::{put_all, take_all, unbox};
 use std::alloc::Global;
+use vme_c_types::{BAD_CALL, NO_MEMORY, OK};
 use vme_processor::{are_all_of_one, close};
 
 /// Closes a machine with all its processors, and leaves the structs empty. Returns `OK`. Otherwise

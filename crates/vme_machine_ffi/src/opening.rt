@@ -1,15 +1,15 @@
 //! The opening of a machine.
 ghost use Rattle.std.specs.Prelude.{◌≡◌, ◌≢◌, IfOk, IfErr, map};
-ghost use Rattle.vme_machine_ffi.specs.Boards.{entry_of};
+ghost use Rattle.vme_c_types.specs.Boards.{entry_of};
 ghost use Rattle.vme_machine_ffi.specs.Openings.{memory_of, AreOpened, HasOpened};
-ghost use Rattle.vme_machine_ffi.specs.Results.{ok};
+ghost use Rattle.vme_c_types.specs.Results.{ok};
 ghost use Rattle.vme_machine_ffi.specs.Structs.{values_of};
 
-use crate::board::{VmeBoard, class_of, entry_of, kind_of};
+use crate::board::VmeBoard;
 use crate::handle::VmeProcessor;
-use crate::results::{BAD_CALL, NO_MEMORY, OK, map_refusal_number};
 use crate::structs::{boxed, put_all};
 use std::alloc::{AllocError, Global};
+use vme_c_types::{BAD_CALL, NO_MEMORY, OK, class_of, entry_of, kind_of, map_refusal_number};
 use vme_decode::{AddressMap, Entry};
 use vme_memory::{ByteMemory, MemoryFault};
 use vme_processor::{OpenError, Place, Processor, open};

@@ -2,29 +2,10 @@
 ghost use Rattle.std.specs.Prelude.{◌≡◌};
 ghost use Rattle.vme_machine_ffi.specs.Requests.{read_request, modify_request, AsksWrite};
 
-use crate::modify::{VmeModify, modify_of};
-use crate::results::{BAD_COUNT, NO_MEMORY};
 use std::alloc::Global;
+use vme_c_types::{BAD_COUNT, NO_MEMORY, VmeModify, VmeRequest, modify_of};
 use vme_cycle::{Block, BlockFault, Request};
 use vme_lanes::Datum;
-
-/// A request of a master to the bus.
-#[repr(C)]
-#[derive(Clone, Copy)]
-pub struct VmeRequest {
-    /// The address of the first byte.
-    pub addr: u32,
-    /// The number of data of a block read, 1 to 256. Other requests ignore it.
-    pub count: u16,
-    /// The address modifier code.
-    pub am: u8,
-    /// 2: block read. 3: block write. Every other number: a single cycle.
-    pub kind: u8,
-    /// The number of bytes of each datum. A single write uses the length of its bytes instead.
-    pub n: u8,
-    /// Ignored.
-    pub f: VmeModify,
-}
 
 /// The request of a read: a block read if the kind is 2, and otherwise a single one.
 pub(crate) fn read_request(r: &VmeRequest) -> Request

@@ -7,14 +7,11 @@ ghost use Rattle.vme_machine_ffi.specs.Results.{closed};
 ghost use Rattle.vme_machine_ffi.specs.Transfers.{StartsAs, StepsAs, Ends, Copies, bytes_of};
 
 use crate::handle::VmeProcessor;
-use crate::modify::VmeModify;
-use crate::request::{VmeRequest, modify_request, read_request, write_request};
-use crate::results::{
-    BAD_CALL, BAD_STATE, BUS_ERROR, BUSY, CLOSED, DENIED, MORE, NO_BOARD, OK, SPENT, WAITING,
-    refusal_number,
-};
+use crate::request::{modify_request, read_request, write_request};
+use crate::results::{BAD_STATE, BUSY, CLOSED, DENIED, MORE, SPENT, WAITING};
 use std::alloc::Global;
 use vme_arbiter::ArbReply;
+use vme_c_types::{BAD_CALL, BUS_ERROR, NO_BOARD, OK, VmeModify, VmeRequest, refusal_number};
 use vme_core::EventReply;
 use vme_cycle::Request;
 use vme_master::OutcomeRef;

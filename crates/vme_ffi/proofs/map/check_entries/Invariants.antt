@@ -1,5 +1,5 @@
 use Rattle.std.proofs.Common.{◌≡◌, length, map, take}
-use Rattle.vme_ffi.specs.Maps.{entry_of}
+use Rattle.vme_c_types.specs.Boards.{entry_of}
 use Rattle.vme_ffi.proofs.map.check_entries.Given as goal
 
 -- the entries so far are read

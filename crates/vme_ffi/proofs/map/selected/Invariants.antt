@@ -2,7 +2,7 @@ use Rattle.std.proofs.Common.{◌≡◌, ◌-◌, map, drop}
 use Rattle.std.specs.Prelude.{find, option_map}
 use Rattle.std.specs.List.{enumerate_from}
 use Rattle.vme_decode.specs.Select.{responds, selection_at}
-use Rattle.vme_ffi.specs.Maps.{entry_of}
+use Rattle.vme_c_types.specs.Boards.{entry_of}
 use Rattle.vme_ffi.proofs.map.selected.Given as goal
 
 -- no entry so far responds

@@ -1,5 +1,5 @@
 use Rattle.std.proofs.Common.{◌≡◌, ◌≤◌, ◌++◌, length, map, drop, vec_len, vec_capacity}
-use Rattle.vme_machine_ffi.specs.Boards.{entry_of}
+use Rattle.vme_c_types.specs.Boards.{entry_of}
 use Rattle.vme_machine_ffi.proofs.opening.entries_of.Given as goal
 
 -- the boards before i have entries, and those of the rest are to come

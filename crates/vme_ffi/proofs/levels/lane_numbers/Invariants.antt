@@ -1,6 +1,6 @@
 use Rattle.std.proofs.Common.{◌≡◌, length, map, take}
 use Rattle.vme_ffi.specs.Data.{lane_of, lane_number}
-use Rattle.vme_ffi.proofs.datum.lane_numbers.Given as goal
+use Rattle.vme_ffi.proofs.levels.lane_numbers.Given as goal
 
 -- the numbers so far are those of the lanes
 abbrev pub invariant-loop-i : goal.invariant-loop-i

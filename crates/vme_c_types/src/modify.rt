@@ -1,15 +1,16 @@
 //! The functions of read-modify-writes, as C has them.
 ghost use Rattle.std.specs.Prelude.{◌≡◌};
-ghost use Rattle.vme_machine_ffi.specs.Data.{modify_of};
+ghost use Rattle.vme_c_types.specs.Data.{modify_of};
 
 use crate::datum::{VmeDatum, datum_of};
 use vme_cycle::Modify;
 
-/// The function of a read-modify-write: IEEE 1014-1987, 2.3.8 (read-modify-write).
+/// The function of a read-modify-write cycle: IEEE 1014-1987, 2.3.8 (read-modify-write).
 #[repr(C)]
 #[derive(Clone, Copy)]
 pub struct VmeModify {
-    /// 1: set. 2: exchange. 3: add. Every other number: compare.
+    /// 0: the cycle is not a read-modify-write. 1: set. 2: exchange. 3: add. Every other number:
+    /// compare. Where a function is required, 0 is compare too.
     pub function: u8,
     /// The bytes that are exchanged, added or expected.
     pub operand: VmeDatum,
@@ -18,7 +19,7 @@ pub struct VmeModify {
 }
 
 /// The function of a read-modify-write.
-pub(crate) fn modify_of(f: &VmeModify) -> Modify
+pub fn modify_of(f: &VmeModify) -> Modify
     ensures { result ≡ modify_of f.now }
 {
     match f.function {

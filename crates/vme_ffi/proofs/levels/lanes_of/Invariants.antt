@@ -1,6 +1,6 @@
 use Rattle.std.proofs.Common.{◌≡◌, length, map, take}
 use Rattle.vme_ffi.specs.Data.{lane_of}
-use Rattle.vme_ffi.proofs.datum.lanes_of.Given as goal
+use Rattle.vme_ffi.proofs.levels.lanes_of.Given as goal
 
 -- the lanes so far are read
 abbrev pub invariant-loop-i : goal.invariant-loop-i

@@ -1,9 +1,13 @@
--- The bytes of a datum and the functions of read-modify-writes, as C has them.
-use Rattle.std.specs.Prelude.{ℕ, ◌-◌, min, ◌==◌, if◌then◌else◌, List, ◌++◌, length, replicate, take}
+-- Switches, the bytes of a datum and the functions of read-modify-writes, as C has them.
+use Rattle.std.specs.Prelude.{ℕ, ◌-◌, min, not, Bool, ◌==◌, if◌then◌else◌, List, ◌++◌, length, replicate, take}
 use Rattle.vme_cycle.specs.declared.modify.Modify as functions
 use Rattle.vme_cycle.specs.declared.modify.Modify.TheVariants.{Set, Exchange, Add, Compare}
-use Rattle.vme_machine_ffi.specs.declared.datum.VmeDatum.{VmeDatum}
-use Rattle.vme_machine_ffi.specs.declared.modify.VmeModify.{VmeModify}
+use Rattle.vme_c_types.specs.declared.datum.VmeDatum.{VmeDatum}
+use Rattle.vme_c_types.specs.declared.modify.VmeModify.{VmeModify}
+
+-- the level of a line, or the position of a switch: every number but 0 is high or on
+abbrev pub level_of : ℕ → Bool
+level_of n = not (n == 0)
 
 -- the bytes of a datum: the first n of its eight
 abbrev pub datum_of : VmeDatum → List ℕ

@@ -1,6 +1,6 @@
-//! The bytes of a datum, as C has them.
+//! Switches and the bytes of a datum, as C has them.
 ghost use Rattle.std.specs.Prelude.{◌≡◌, ◌≤◌, length};
-ghost use Rattle.vme_machine_ffi.specs.Data.{datum_of, datum_struct};
+ghost use Rattle.vme_c_types.specs.Data.{level_of, datum_of, datum_struct};
 
 use vme_lanes::Datum;
 
@@ -17,8 +17,23 @@ pub struct VmeDatum {
     pub bytes: [u8; 8],
 }
 
+/// The level of a line, or the position of a switch: every number but 0 is high or on.
+pub fn level_of(number: u8) -> bool
+    ensures { result ≡ level_of number }
+{
+    number != 0
+}
+
+/// Borrows the bytes of a datum.
+pub fn bytes_of(datum: &VmeDatum) -> &[u8]
+    ensures value { result.now ≡ datum_of datum.now }
+    ensures len { length result.now ≤ 8 }
+{
+    &datum.bytes[..usize::from(datum.n).min(MOST_BYTES)]
+}
+
 /// The bytes of a datum.
-pub(crate) fn datum_of(datum: &VmeDatum) -> Datum
+pub fn datum_of(datum: &VmeDatum) -> Datum
     ensures value { result.items ≡ datum_of datum.now }
     ensures len { length result.items ≤ 8 }
 {
@@ -33,7 +48,7 @@ pub(crate) fn datum_of(datum: &VmeDatum) -> Datum
 }
 
 /// The struct of a datum of some bytes, which zeros follow.
-pub(crate) fn datum_from(bytes: &[u8]) -> VmeDatum
+pub fn datum_from(bytes: &[u8]) -> VmeDatum
     requires { length bytes.now ≤ 8 }
     ensures value { datum_of result ≡ bytes.now }
     ensures exact { result ≡ datum_struct bytes.now }
