@@ -1,5 +1,5 @@
 -- The state and the replies of an arbiter, as C has them.
-use Rattle.std.specs.Prelude.{◌≡◌, ℕ, map, is_some, Option, Some, None}
+use Rattle.std.specs.Prelude.{◌≡◌, ℕ, if◌then◌else◌, map, is_some, Option, Some, None}
 use Rattle.std.specs.Option.{option_map_or}
 use Rattle.vme_arbiter.specs.declared.command.ArbReply.{ArbReply}
 use Rattle.vme_arbiter.specs.declared.command.ArbReply.TheVariants.{Granted, Waiting, Freed, Denied}
