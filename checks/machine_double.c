@@ -2,17 +2,10 @@
    absent, and what the archive is compared with. Nothing is proved of it. */
 #include <stdbool.h>
 #include <string.h>
+#include "vme_alloc.h"
 #include "vme_machine.h"
 
 enum { MOST_BOARDS = 21, MOST_BYTES = 2048, MOST_SIZE = 1 << 20 };
-
-/* The allocator of lib/vme_heap.c, or another one. */
-struct tried {
-    bool ok;
-    void *at;
-};
-struct tried rattle_alloc(size_t size, size_t align);
-void rattle_dealloc(void *old);
 
 struct object {
     uint32_t taken;
@@ -47,8 +40,8 @@ struct processor {
 
 static void *allocated(size_t size)
 {
-    struct tried tried = rattle_alloc(size, 16);
-    return tried.ok ? memset(tried.at, 0, size) : NULL;
+    const vme_block block = rattle_alloc(size, 16);
+    return block.ok ? memset(block.at, 0, size) : NULL;
 }
 
 /* Whether this call has taken the object. */

@@ -35,29 +35,30 @@ enum {
 
 /* ---- The local port of the processor's own board ---- */
 
+/* Makes a call of one event again while its object is busy. */
+#define VME_UNTIL_FREE(result, waiter, call) \
+    do { \
+        vme_tries tries_ = { 0, 0 }; \
+        do { \
+            vme_before_event(waiter); \
+            (result) = (call); \
+            vme_after_event(waiter); \
+        } while ((result) == VME_BUSY && vme_wait((waiter), NULL, 0, &tries_)); \
+    } while (0)
+
 /* As vme_processor_try_local_read, but it waits while the board is busy. */
 static inline uint8_t vme_processor_local_read(vme_processor *p, const vme_waiter *waiter, uint32_t at, uint8_t n, vme_datum *out)
 {
-    vme_tries tries = { 0, 0 };
     uint8_t result;
-    do {
-        vme_before_event(waiter);
-        result = vme_processor_try_local_read(p, at, n, out);
-        vme_after_event(waiter);
-    } while (result == VME_BUSY && vme_wait(waiter, NULL, 0, &tries));
+    VME_UNTIL_FREE(result, waiter, vme_processor_try_local_read(p, at, n, out));
     return result;
 }
 
 /* As vme_processor_try_local_write, but it waits while the board is busy. */
 static inline uint8_t vme_processor_local_write(vme_processor *p, const vme_waiter *waiter, uint32_t at, const vme_datum *datum)
 {
-    vme_tries tries = { 0, 0 };
     uint8_t result;
-    do {
-        vme_before_event(waiter);
-        result = vme_processor_try_local_write(p, at, datum);
-        vme_after_event(waiter);
-    } while (result == VME_BUSY && vme_wait(waiter, NULL, 0, &tries));
+    VME_UNTIL_FREE(result, waiter, vme_processor_try_local_write(p, at, datum));
     return result;
 }
 
@@ -65,58 +66,48 @@ static inline uint8_t vme_processor_local_write(vme_processor *p, const vme_wait
 static inline uint8_t vme_processor_local_modify(vme_processor *p, const vme_waiter *waiter, uint32_t at, uint8_t n,
                                                  const vme_modify *f, vme_datum *out)
 {
-    vme_tries tries = { 0, 0 };
     uint8_t result;
-    do {
-        vme_before_event(waiter);
-        result = vme_processor_try_local_modify(p, at, n, f, out);
-        vme_after_event(waiter);
-    } while (result == VME_BUSY && vme_wait(waiter, NULL, 0, &tries));
+    VME_UNTIL_FREE(result, waiter, vme_processor_try_local_modify(p, at, n, f, out));
     return result;
 }
 
+#undef VME_UNTIL_FREE
+
 /* ---- Transfers over the bus ---- */
+
+/* Steps a transfer that was started until it ends, or until its next event if `once` is not 0. Returns the result of the last step. */
+static inline uint8_t vme_go_on(vme_processor *p, const vme_waiter *waiter, int once)
+{
+    vme_tries tries = { 0, 0 };
+    for (;;) {
+        const uint32_t value = vme_count_value(vme_bus_of(waiter));
+        vme_before_event(waiter);
+        const uint8_t result = vme_processor_step(p);
+        vme_after_event(waiter);
+        if (result == VME_MORE && !once)
+            memset(&tries, 0, sizeof tries);
+        else if ((result != VME_BUSY && result != VME_NOT_GRANTED)
+                 || !vme_wait(waiter, result == VME_BUSY ? NULL : vme_bus_of(waiter), value, &tries))
+            return result;
+    }
+}
 
 /* Steps a transfer that was started until the processor has the bus, which it keeps until the transfer ends: what other processors do
  * between their own VME_OK and their end, they do before or after. Returns VME_OK, what the waiter's limit gives, VME_BAD_CALL or
  * VME_CLOSED. */
 static inline uint8_t vme_acquire(vme_processor *p, const vme_waiter *waiter)
 {
-    vme_tries tries = { 0, 0 };
-    for (;;) {
-        const uint32_t value = vme_count_value(vme_bus_of(waiter));
-        vme_before_event(waiter);
-        const uint8_t result = vme_processor_step(p);
-        vme_after_event(waiter);
-        if (result == VME_MORE)
-            return VME_OK;
-        if (result != VME_BUSY && result != VME_NOT_GRANTED)
-            return result;
-        if (!vme_wait(waiter, result == VME_BUSY ? NULL : vme_bus_of(waiter), value, &tries))
-            return result;
-    }
+    const uint8_t result = vme_go_on(p, waiter, 1);
+    return result == VME_MORE ? (uint8_t)VME_OK : result;
 }
 
 /* Steps a transfer that was started until it ends, and returns the result of its last step. */
 static inline uint8_t vme_finish(vme_processor *p, const vme_waiter *waiter)
 {
-    vme_tries tries = { 0, 0 };
-    for (;;) {
-        const uint32_t value = vme_count_value(vme_bus_of(waiter));
-        vme_before_event(waiter);
-        const uint8_t result = vme_processor_step(p);
-        vme_after_event(waiter);
-        if (result == VME_MORE)
-            memset(&tries, 0, sizeof tries);
-        else if (result == VME_BUSY || result == VME_NOT_GRANTED) {
-            if (!vme_wait(waiter, result == VME_BUSY ? NULL : vme_bus_of(waiter), value, &tries))
-                return result;
-        } else {
-            if (result == VME_OK || result == VME_BERR || result == VME_NO_BOARD)
-                vme_count_increment(vme_bus_of(waiter));
-            return result;
-        }
-    }
+    const uint8_t result = vme_go_on(p, waiter, 0);
+    if (result == VME_OK || result == VME_BERR || result == VME_NO_BOARD)
+        vme_count_increment(vme_bus_of(waiter));
+    return result;
 }
 
 /* The same for a transfer that writes. */

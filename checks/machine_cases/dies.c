@@ -44,7 +44,7 @@ static void child(segment *at, int has_bus)
 /* Kills a child after some work, reads its board over the bus, and returns the result. */
 static uint8_t round_of(int has_bus, unsigned wait_us, double *took)
 {
-    segment *at = segment_make(NULL);
+    segment *at = segment_make(NULL, SEGMENT_BYTES);
     if (!at)
         exit(2);
     open_crate(2);

@@ -1,20 +1,10 @@
 /* Each allocation of open, of the start of a block write and of close is refused in turn, by an allocator of this program's own. A
    refused open gives VME_NO_MEMORY, no processor, and all its memory back; a refused start or close leaves the machine as it was. No
    event allocates, and no start of another transfer. */
-#include <stdbool.h>
 #include "cases.h"
-
-struct tried {
-    bool ok;
-    void *at;
-};
-
-struct tried rattle_alloc(size_t size, size_t align);
-struct tried rattle_realloc(void *old, size_t kept, size_t size, size_t align);
-void rattle_dealloc(void *old);
+#include "vme_alloc.h"
 
 static long left = -1, live, asked; /* left: how many allocations are given before one is refused, or -1 for all */
-static char none;
 
 static bool is_refused(void)
 {
@@ -22,26 +12,20 @@ static bool is_refused(void)
     return left >= 0 && left-- == 0;
 }
 
-static struct tried given(void *at)
-{
-    const struct tried tried = { at != NULL, at ? at : &none };
-    return tried;
-}
-
-struct tried rattle_alloc(size_t size, size_t align)
+vme_block rattle_alloc(size_t size, size_t align)
 {
     (void)align;
     if (is_refused())
-        return given(NULL);
+        return vme_block_at(NULL);
     live++;
-    return given(malloc(size ? size : 1));
+    return vme_block_at(malloc(size ? size : 1));
 }
 
-struct tried rattle_realloc(void *old, size_t kept, size_t size, size_t align)
+vme_block rattle_realloc(void *old, size_t kept, size_t size, size_t align)
 {
     (void)kept;
     (void)align;
-    return given(is_refused() ? NULL : realloc(old, size ? size : 1));
+    return vme_block_at(is_refused() ? NULL : realloc(old, size ? size : 1));
 }
 
 void rattle_dealloc(void *old)

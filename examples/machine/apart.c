@@ -70,7 +70,7 @@ int main(int argc, char **argv)
         return 2;
     }
     rounds = argc > 3 ? strtoul(argv[3], NULL, 10) : rounds;
-    segment *at = strcmp(argv[1], "make") == 0 ? segment_make(argv[2]) : segment_map(argv[2]);
+    segment *at = strcmp(argv[1], "make") == 0 ? segment_make(argv[2], SEGMENT_BYTES) : segment_map(argv[2]);
     if (!at) {
         fprintf(stderr, "apart: the segment can't be mapped\n");
         return 1;

@@ -7,7 +7,7 @@
 
 #include "vme_wait.h"
 
-enum { SEGMENT_PROCESSORS = 4, SEGMENT_BYTES = 1 << 20, SEGMENT_LINE = 64 };
+enum { SEGMENT_PROCESSORS = 21, SEGMENT_BYTES = 1 << 20, SEGMENT_LINE = 64 };
 
 /* A processor on a cache line of its own. A process uses the one of its slot, and no other. */
 typedef struct segment_cpu {
@@ -17,14 +17,15 @@ typedef struct segment_cpu {
 /* The head of a segment. */
 typedef struct segment {
     uint32_t is_open; /* 1 once the machine is there */
-    uint64_t used;
+    uint64_t size, used;
+    void *shared; /* what the processes share besides the machine, by rattle_alloc */
     vme_releases releases;
     segment_cpu cpus[SEGMENT_PROCESSORS];
 } segment;
 
-/* Makes a new segment of zeros in a file, or without a path one for this process and those that it forks. Returns NULL if the file is
- * there, or if the address is in use. */
-segment *segment_make(const char *path);
+/* Makes a new segment of zeros in a file, or without a path one for this process and those that it forks. SEGMENT_BYTES are enough for
+ * four boards of 4 KB. Returns NULL if the file is there, or if the address is in use. */
+segment *segment_make(const char *path, size_t size);
 
 /* Maps the segment of a file that another process has made. Returns NULL if there is none, or if the address is in use. */
 segment *segment_map(const char *path);

@@ -8,13 +8,11 @@
 #ifndef VME_MACHINE_TLM_H
 #define VME_MACHINE_TLM_H
 
-#include <algorithm>
-#include <cstring>
-
 #include <systemc>
 #include <tlm>
 #include <tlm_utils/simple_target_socket.h>
 
+#include "vme_payload.h"
 #include "vme_wait.h"
 
 namespace vme {
@@ -27,7 +25,7 @@ public:
     // bits, and uat whether they have unaligned cycles. event is the time of one event.
     processor_port(const sc_core::sc_module_name &name, vme_processor &own, uint8_t am, sc_core::sc_time event, uint8_t width = 32,
                    bool uat = true)
-        : sc_module(name), own(own), am(am), width(width), uat(uat && width == 32), event(event)
+        : sc_module(name), own(own), am(am), width(width), uat(uat), event(event)
     {
         in.register_b_transport(this, &processor_port::transport);
     }
@@ -41,42 +39,16 @@ private:
     bool uat;
     sc_core::sc_time event;
 
-    // The response to a payload that no cycles can move, or TLM_OK_RESPONSE.
-    static tlm::tlm_response_status fits(const tlm::tlm_generic_payload &payload)
-    {
-        if (payload.get_byte_enable_ptr())
-            return tlm::TLM_BYTE_ENABLE_ERROR_RESPONSE;
-        if (payload.get_data_length() == 0 || payload.get_streaming_width() < payload.get_data_length())
-            return tlm::TLM_BURST_ERROR_RESPONSE;
-        if (payload.get_address() + payload.get_data_length() - 1 > UINT32_MAX)
-            return tlm::TLM_ADDRESS_ERROR_RESPONSE;
-        return tlm::TLM_OK_RESPONSE;
-    }
-
-    // The length of the longest cycle at an address.
-    unsigned length_at(uint32_t addr, unsigned left) const
-    {
-        if (uat)
-            return std::min(4 - addr % 4, left);
-        unsigned n = width / 8;
-        while (n > left || addr % n != 0)
-            n /= 2;
-        return n;
-    }
-
     void transport(tlm::tlm_generic_payload &payload, sc_core::sc_time &delay)
     {
-        payload.set_response_status(fits(payload));
+        payload.set_response_status(fits_cycles(payload));
         if (payload.is_response_error() || payload.get_command() == tlm::TLM_IGNORE_COMMAND)
             return;
         sc_core::wait(delay);
         delay = sc_core::SC_ZERO_TIME;
-        for (unsigned done = 0; done < payload.get_data_length() && payload.is_response_ok();) {
-            const auto addr = static_cast<uint32_t>(payload.get_address() + done);
-            const unsigned n = length_at(addr, payload.get_data_length() - done);
-            payload.set_response_status(response(move(payload.is_read(), addr, payload.get_data_ptr() + done, n)));
-            done += n;
-        }
+        each_cycle(payload, width, uat, [&](uint32_t addr, unsigned char *data, unsigned n) {
+            payload.set_response_status(response(move(payload.is_read(), addr, data, n)));
+        });
     }
 
     static tlm::tlm_response_status response(uint8_t result)

@@ -21,6 +21,7 @@
 #include <tlm_utils/simple_target_socket.h>
 
 #include "vme.h"
+#include "vme_payload.h"
 
 namespace vme {
 
@@ -254,7 +255,7 @@ public:
     // unaligned cycles. The backplane is asked for the bus.
     bridge(const sc_core::sc_module_name &name, backplane &plane, uint16_t slot, uint8_t level, uint8_t am, uint8_t width = 32,
            bool uat = true)
-        : sc_module(name), plane(plane), slot(slot), level(level), am(am), width(width), uat(uat && width == 32)
+        : sc_module(name), plane(plane), slot(slot), level(level), am(am), width(width), uat(uat)
     {
         in.register_b_transport(this, &bridge::transport);
         in.register_transport_dbg(this, &bridge::debug);
@@ -268,51 +269,18 @@ private:
     uint8_t level, am, width;
     bool uat;
 
-    // The response to a payload that no cycles can move, or TLM_OK_RESPONSE.
-    static tlm::tlm_response_status fits(const tlm::tlm_generic_payload &payload)
-    {
-        if (payload.get_byte_enable_ptr())
-            return tlm::TLM_BYTE_ENABLE_ERROR_RESPONSE;
-        if (payload.get_data_length() == 0 || payload.get_streaming_width() < payload.get_data_length())
-            return tlm::TLM_BURST_ERROR_RESPONSE;
-        if (payload.get_address() + payload.get_data_length() - 1 > UINT32_MAX)
-            return tlm::TLM_ADDRESS_ERROR_RESPONSE;
-        return tlm::TLM_OK_RESPONSE;
-    }
-
     void transport(tlm::tlm_generic_payload &payload, sc_core::sc_time &delay)
     {
-        payload.set_response_status(fits(payload));
+        payload.set_response_status(fits_cycles(payload));
         if (payload.is_response_error() || payload.get_command() == tlm::TLM_IGNORE_COMMAND)
             return;
         sc_core::wait(delay);
         delay = sc_core::SC_ZERO_TIME;
         plane.acquire(slot, level);
         sc_core::sc_time spent;
-        cycles(payload, spent);
+        each_cycle(payload, width, uat, [&](uint32_t addr, unsigned char *data, unsigned n) { move(payload, addr, data, n, spent); });
         sc_core::wait(spent);
         plane.release(slot);
-    }
-
-    // The length of the longest cycle at an address.
-    unsigned length_at(uint32_t addr, unsigned left) const
-    {
-        if (uat)
-            return std::min(4 - addr % 4, left);
-        unsigned n = width / 8;
-        while (n > left || addr % n != 0)
-            n /= 2;
-        return n;
-    }
-
-    void cycles(tlm::tlm_generic_payload &whole, sc_core::sc_time &spent)
-    {
-        for (unsigned done = 0; done < whole.get_data_length() && whole.is_response_ok();) {
-            const auto addr = static_cast<uint32_t>(whole.get_address() + done);
-            const unsigned n = length_at(addr, whole.get_data_length() - done);
-            move(whole, addr, whole.get_data_ptr() + done, n, spent);
-            done += n;
-        }
     }
 
     // One cycle of n bytes.
