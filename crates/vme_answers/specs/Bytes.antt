@@ -1,10 +1,10 @@
--- The accesses to bytes of a datum or a local access, and what is known after them.
-use Rattle.std.specs.Prelude.{ℕ, ◌+◌, ◌-◌, nat_le, if◌then◌else◌, List, [], ◌∷◌, slice_range}
+-- The accesses to bytes of a datum or a local access, and what is known after them and after bytes are forgotten.
+use Rattle.std.specs.Prelude.{ℕ, zero, suc, ◌+◌, ◌-◌, nat_le, if◌then◌else◌, List, [], ◌∷◌, slice_range}
 use Rattle.std.specs.Int.{w32, w64, to_be_bytes}
 use Rattle.vme_known.specs.declared.access.Access.{Access}
 use Rattle.vme_known.specs.declared.access.Access.TheVariants.{Finds, Stores}
 use Rattle.vme_known.specs.declared.byte.Byte.{Byte}
-use Rattle.vme_known.specs.Judging.{known_after}
+use Rattle.vme_known.specs.Judging.{known_after, forgotten}
 use Rattle.vme_protocol.specs.declared.datum.Datum.{Datum}
 use Rattle.vme_protocol.specs.declared.port.Local.{Local}
 
@@ -30,3 +30,8 @@ stores at (byte ∷ bytes) = Stores at byte ∷ stores (at + 1) bytes
 abbrev pub all_after : List Byte → List Access → List Byte
 all_after known [] = known
 all_after known (access ∷ accesses) = all_after (known_after known access) accesses
+
+-- what is known once something unseen may have written so many bytes from a place on
+abbrev pub all_forgotten : List Byte → ℕ → ℕ → List Byte
+all_forgotten known at zero = known
+all_forgotten known at (suc count) = forgotten (all_forgotten known at count) (at + count)

@@ -4,3 +4,4 @@ pub mod Selecting
 pub mod Taking
 pub mod Running
 pub mod Starting
+pub mod Forgetting

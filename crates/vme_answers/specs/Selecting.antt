@@ -56,3 +56,12 @@ select_by entries rows d (Ok code) = chosen_at rows d (selection_at entries code
 -- the row that the address map selects for a datum, and the offset there
 unfoldable pub select : List Entry → List Row → Datum → Option Selected
 select entries rows d = select_by entries rows d (read_code d.am)
+
+-- the board that an address selects under a code with a row, and the offset there; IEEE 1014-1987, 2.3.5 (addressing)
+abbrev pub board_by : List Entry → ℕ → Result CodeRow AmFault → Option (ℕ × ℕ)
+board_by entries addr (Err fault) = None
+board_by entries addr (Ok code) = selection_at entries code addr
+
+-- the board that an address selects under a code, and the offset there
+abbrev pub board_at : List Entry → ℕ → ℕ → Option (ℕ × ℕ)
+board_at entries am addr = board_by entries addr (read_code am)

@@ -1,10 +1,12 @@
 ghost use Rattle.std.specs.Prelude.{◌≡◌, ◌+◌, ◌≤◌, length, replicate, None, Ok, Err, IsOk, IfOk, IfErr, IfSome};
-ghost use Rattle.vme_answers.specs.Selecting.{select};
+ghost use Rattle.vme_answers.specs.Forgetting.{forgot};
+ghost use Rattle.vme_answers.specs.Selecting.{select, board_at};
 ghost use Rattle.vme_answers.specs.Starting.{started};
 ghost use Rattle.vme_answers.specs.Taking.{place, rested, half_after, half_torn, is_torn, read_taken, write_taken, taken_at, taken_in, taken_by, taken, local_taken_at, local_taken_in, local_taken};
 
 use crate::board::{BoardRule, Half, Open, Row};
 use crate::bytes::{bytes_of, find_all, known_from, local_bytes, store_all};
+use crate::forgetting::forget_range;
 use crate::selected::{Selected, is_block, is_second};
 use crate::starting::{entries_of, open_all, rows_of};
 use crate::wrong::Wrong;
@@ -111,6 +113,25 @@ impl Answers {
             Some(at) => self.take_local_at(&selected, at, access),
             None => Ok(()),
         }
+    }
+
+    /// Returns the board that an address selects under a code, and the offset there.
+    pub fn board_at(&self, am: u8, addr: u32) -> Option<(usize, u32)>
+        ensures { result ≡ board_at self.now.entries am addr }
+    {
+        match Am::from_code(am) {
+            Ok(am) => self.map.select_at(am, addr),
+            Err(_) => None,
+        }
+    }
+
+    /// Forgets the bytes of a board from one offset to another: something unseen may have written them.
+    /// Bytes that are not there are left out.
+    pub fn forget(&mut self, board: usize, from: u32, to: u32)
+        ensures { self.new ≡ forgot self.old board from to }
+    {
+        forget_range(&mut self.bytes, self.rows.as_slice(), board, from, to);
+        self.half = None;
     }
 
     /// The board that a datum selects, and the offset of its first byte.

@@ -1,7 +1,7 @@
 //! The bytes of a datum or a local access, and what is known of them.
 ghost use Rattle.std.specs.Prelude.{◌≡◌, ◌+◌, ◌≤◌, length, IsTrue};
 ghost use Rattle.vme_known.specs.Judging.{may_all_come};
-ghost use Rattle.vme_answers.specs.Bytes.{finds, stores, all_after, bytes_of, local_bytes};
+ghost use Rattle.vme_answers.specs.Bytes.{finds, stores, all_after, all_forgotten, bytes_of, local_bytes};
 
 use vme_known::{Byte, KnownBytes};
 use vme_lanes::Datum as Bytes;
@@ -62,6 +62,19 @@ pub(crate) fn store_all(known: &mut KnownBytes, at: usize, bytes: &[u8])
     for byte in bytes {
         known.store(place, *byte);
         place += 1;
+    }
+}
+
+/// Forgets what is known of some bytes from a place on.
+pub(crate) fn forget_all(known: &mut KnownBytes, at: usize, count: usize)
+    requires { at + count ≤ length known.old }
+    ensures known { known.new ≡ all_forgotten known.old at count }
+    ensures len { length known.new ≡ length known.old }
+{
+    // A place up to the end can be counted.
+    let _end = known.len();
+    for step in 0..count {
+        known.forget(at + step);
     }
 }
 

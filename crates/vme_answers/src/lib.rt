@@ -7,6 +7,7 @@ mod answers;
 mod board;
 mod bytes;
 mod class;
+mod forgetting;
 mod laws;
 mod selected;
 mod starting;

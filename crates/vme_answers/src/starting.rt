@@ -38,7 +38,7 @@ pub(crate) fn rows_of(alloc: Global, boards: &[BoardRule]) -> Result<(Vec<Row>, 
 }
 
 /// The place after some bytes, up to the greatest.
-fn place_after(start: usize, len: u32) -> usize
+pub(crate) fn place_after(start: usize, len: u32) -> usize
     ensures { result ≡ place_after start len }
 {
     start.saturating_add(len as usize)

@@ -1,6 +1,6 @@
 //! What `bendrika explain` answers.
 use crate::entry::Text;
-use crate::find::{Asked, all, texts_in};
+use crate::find::{Asked, all, rules, texts_in};
 use crate::json::write_json;
 use crate::markdown::{write_head, write_row};
 use crate::plain::{write_plain, write_title};
@@ -71,6 +71,9 @@ enum Form {
 /// Appends the texts of all tables.
 fn write_tables(form: Form, to: &mut String) -> Result<(), AllocError> {
     for table in all() {
+        write_table(table, form, to)?;
+    }
+    for table in rules() {
         write_table(table, form, to)?;
     }
     Ok(())

@@ -1,9 +1,10 @@
 //! The entry of a code: its texts and its example.
+use crate::dump::HEAD;
 
 /// The texts of a code or of a reply.
 #[derive(Clone, Copy, Debug)]
 pub struct Text {
-    /// The code, as `vme` prints it.
+    /// The code, as `vme` or `bendrika` prints it.
     pub code: &'static str,
     /// Other codes with the same entry.
     pub others: &'static [&'static str],
@@ -15,19 +16,19 @@ pub struct Text {
     pub sections: &'static str,
     /// What to do. Empty: nothing.
     pub help: &'static str,
-    /// An input that `vme` answers with the code. A fault of the program, a warning and an answer of
-    /// `bendrika serve` alone have none.
+    /// An input that `vme`, or of a rule of traces `bendrika judge`, answers with the code. A fault of
+    /// the program, a warning and an answer of `bendrika serve` alone have none.
     pub example: Option<Example>,
 }
 
-/// An input, and a line of the answer of `vme`.
+/// An input, and what its answer shows.
 #[derive(Clone, Copy, Debug)]
 pub struct Example {
     /// The part of the input that matters, in one line.
     pub brief: &'static str,
     /// The whole input.
     pub input: Input,
-    /// The line of the answer that names the code.
+    /// The line of the answer that names the code; of a trace with the levels below it.
     pub shows: &'static str,
 }
 
@@ -45,14 +46,22 @@ pub enum Input {
         times: u16,
         tail: &'static str,
     },
+    /// A bus log for `bendrika judge`.
+    Log(&'static str),
+    /// The changes of a value change dump for `bendrika judge` with these words.
+    Dump {
+        words: &'static str,
+        changes: &'static str,
+    },
 }
 
 impl Example {
-    /// The command of `vme` that runs the input.
+    /// The command that takes the input: `judge` of `bendrika`, or one of `vme`.
     pub(crate) fn form(&self) -> &'static str {
         match self.input {
             Input::Line => "cycles",
             Input::File(_) | Input::LongFile { .. } => "step",
+            Input::Log(_) | Input::Dump { .. } => "judge",
         }
     }
 
@@ -60,7 +69,8 @@ impl Example {
     pub(crate) fn parts(&self) -> [(&'static str, u16); 3] {
         match self.input {
             Input::Line => [(self.brief, 1), ("", 0), ("", 0)],
-            Input::File(text) => [(text, 1), ("", 0), ("", 0)],
+            Input::File(text) | Input::Log(text) => [(text, 1), ("", 0), ("", 0)],
+            Input::Dump { changes, .. } => [(HEAD, 1), (changes, 1), ("", 0)],
             Input::LongFile {
                 head,
                 repeated,

@@ -1,6 +1,6 @@
 //! The texts that a line asks for.
 use crate::entry::Text;
-use crate::tables::{FAULTS, FILES, LINES, REPLIES, REQUESTS, WARNINGS};
+use crate::tables::{FAULTS, FILES, LINES, REPLIES, REQUESTS, SIGNALS, TRANSFERS, WARNINGS};
 use std::alloc::{AllocError, Global};
 
 /// What a line asks for.
@@ -12,7 +12,8 @@ pub enum Asked {
     Unknown(String),
 }
 
-/// Returns the six tables: the texts of requests, lines, files, faults, replies and warnings.
+/// Returns six tables: the texts of requests, lines, files, faults, replies and warnings. Those of the
+/// rules of traces are in [`rules`].
 pub fn all() -> [&'static [Text]; 6] {
     [
         REQUESTS.as_slice(),
@@ -24,9 +25,14 @@ pub fn all() -> [&'static [Text]; 6] {
     ]
 }
 
+/// Returns the tables of the rules of traces: of lines and their changes, and of transfers and answers.
+pub fn rules() -> [&'static [Text]; 2] {
+    [SIGNALS.as_slice(), TRANSFERS.as_slice()]
+}
+
 /// Returns the texts that a line asks for. The line has codes in any case, or is a reply, a refusal
 /// or a fault as `vme` or `bendrika` printed it, or the first or the last line of a finding as
-/// `bendrika check` printed it.
+/// `bendrika check` or `bendrika judge` printed it.
 ///
 /// # Errors
 ///
@@ -62,6 +68,16 @@ pub fn texts_in(alloc: Global, line: &str) -> Result<Asked, AllocError> {
 /// Returns the text of a code in any case, if it has one.
 pub fn text_of(code: &str) -> Option<Text> {
     for table in all() {
+        if let Some(text) = text_in(table, code) {
+            return Some(text);
+        }
+    }
+    rule_of(code)
+}
+
+/// The text of a rule of traces in any case, if the code is that of one.
+fn rule_of(code: &str) -> Option<Text> {
+    for table in rules() {
         if let Some(text) = text_in(table, code) {
             return Some(text);
         }
@@ -118,7 +134,8 @@ fn text_titled(title: &str) -> Option<Text> {
     None
 }
 
-/// The text of the code in brackets at the end of a line, as `bendrika check` prints a finding.
+/// The text of the code in brackets at the end of a line, as `bendrika check` and `bendrika judge` print
+/// a finding.
 fn finding_in(line: &str) -> Option<Text> {
     let (_, code) = line.strip_suffix("]")?.rsplit_once("[")?;
     text_of(code)

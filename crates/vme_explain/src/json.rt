@@ -1,5 +1,6 @@
 //! A text as a JSON object.
-use crate::entry::{Example, Text};
+use crate::dump::BOARDS;
+use crate::entry::{Example, Input, Text};
 use std::alloc::AllocError;
 use std::fmt::Write;
 
@@ -29,9 +30,18 @@ pub(crate) fn write_json(text: &Text, to: &mut String) -> Result<(), AllocError>
     to.push_str("}\n")
 }
 
-/// Appends the keys of an example: the command, its input, and the line that it answers.
+/// Appends the keys of an example: the command, of `judge` its boards and words, the input, and what
+/// the answer shows.
 fn write_example(example: &Example, to: &mut String) -> Result<(), AllocError> {
     field("form", example.form(), to)?;
+    match example.input {
+        Input::Line | Input::File(_) | Input::LongFile { .. } => {}
+        Input::Log(_) => field("boards", BOARDS, to)?,
+        Input::Dump { words, .. } => {
+            field("boards", BOARDS, to)?;
+            field("words", words, to)?;
+        }
+    }
     to.push_str(",\"input\":\"")?;
     for (text, times) in example.parts() {
         for _ in 0..times {

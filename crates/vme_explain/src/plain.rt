@@ -1,5 +1,5 @@
 //! A text for a terminal.
-use crate::entry::{Example, Text};
+use crate::entry::{Example, Input, Text};
 use std::alloc::AllocError;
 use std::fmt::Write;
 
@@ -42,8 +42,12 @@ pub(crate) fn write_title(text: &Text, to: &mut String) -> Result<(), AllocError
     write!(to, "{code:<15}{title}\n")
 }
 
-/// Appends an example: its input and the line of the answer.
+/// Appends an example: its input, in brief if it is a dump, and what the answer shows.
 fn write_example(example: &Example, to: &mut String) -> Result<(), AllocError> {
+    if let Input::Dump { .. } = example.input {
+        indent(example.brief, to)?;
+        return indent(example.shows, to);
+    }
     for (text, times) in example.parts() {
         indent(text, to)?;
         if 1 < times {

@@ -39,6 +39,10 @@ abbrev pub known_after : List Byte → Access → List Byte
 known_after bytes access =
     if is_open (slice_get bytes (place_of access)) then bytes else slice_set bytes (place_of access) (Known (byte_in access))
 
+-- what is known once something unseen may have written a byte: nothing of it
+abbrev pub forgotten : List Byte → ℕ → List Byte
+forgotten bytes at = if is_open (slice_get bytes at) then bytes else slice_set bytes at Unseen
+
 -- whether accesses may come, one after another
 abbrev pub may_all_come : List Byte → List Access → Bool
 may_all_come bytes [] = true

@@ -1,7 +1,7 @@
 ghost use Rattle.std.specs.Prelude.{◌≡◌, ◌<◌, ◌≤◌, ◌≢◌, ◌-◌, ◌++◌, length, take, drop, replicate, All, IfOk, IsTrue, Some, slice_get};
 ghost use Rattle.vme_known.specs.declared.access.Access.TheVariants as accesses;
 ghost use Rattle.vme_known.specs.declared.byte.Byte.TheVariants.{Open};
-ghost use Rattle.vme_known.specs.Judging.{may_all_come, may_come, known_after, place_of};
+ghost use Rattle.vme_known.specs.Judging.{may_all_come, may_come, known_after, forgotten, place_of};
 
 use crate::access::Access;
 use crate::byte::Byte;
@@ -85,6 +85,17 @@ impl KnownBytes {
     {
         if self.bytes[at] != Byte::Open {
             self.bytes[at] = Byte::Known(byte);
+        }
+    }
+
+    /// Forgets what is known of a byte: something unseen may have written it. An open byte stays open.
+    pub fn forget(&mut self, at: usize)
+        requires { at < length self.old }
+        ensures known { self.new ≡ forgotten self.old at }
+        ensures len { length self.new ≡ length self.old }
+    {
+        if self.bytes[at] != Byte::Open {
+            self.bytes[at] = Byte::Unseen;
         }
     }
 
