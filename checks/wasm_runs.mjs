@@ -106,6 +106,9 @@ for (const it of ['', '--help', '--version', 'x', 'check --help', 'outcomes --he
 for (const it of ['', '--help', 'step', 'step absent.toml', 'cycles x', 'serve', 'run absent.toml'])
   cases.push(['words', ['vme', ...it.split(' ').filter(Boolean)], Buffer.from('')]);
 
+// What a run reports, without the memory that it had, which a module does not know and which differs from run to run.
+const told = (ran) => ran.err.toString('latin1').replace(/^bendrika: \d+ bytes of memory were in use\n/m, '');
+
 function compareAll() {
   let same = 0, bytes = 0;
   for (const [name, words, input] of cases) {
@@ -117,7 +120,7 @@ function compareAll() {
       found = { status: String(why), out: Buffer.from(''), err: Buffer.from('') };
     }
     bytes += wanted.out.length;
-    if (found.status === wanted.status && found.out.equals(wanted.out) && found.err.equals(wanted.err)) same++;
+    if (found.status === wanted.status && found.out.equals(wanted.out) && told(found) === told(wanted)) same++;
     else console.error(`wasm: ${name}: ${words.join(' ')}: status ${found.status} and not ${wanted.status}; ${found.out.length} bytes and not ${wanted.out.length}; ${JSON.stringify(found.err.toString().slice(0, 200))} and not ${JSON.stringify(wanted.err.toString().slice(0, 200))}`);
   }
   console.log(`wasm: ${same} of ${cases.length} runs are the programs', with ${bytes} bytes of output`);

@@ -30,6 +30,7 @@ complete -c bendrika -n '__fish_seen_subcommand_from outcomes' -l never -x -d 'F
 complete -c bendrika -n '__fish_seen_subcommand_from outcomes' -l always -x -d 'Fail if some outcome lacks one of these lines'
 complete -c bendrika -n '__fish_seen_subcommand_from outcomes' -l lines -x -d 'List only the replies to these lines, as 1:2,2:1, or to those of conditions'
 complete -c bendrika -n '__fish_seen_subcommand_from outcomes' -l show -x -d 'Print the replies to these lines as a table, with a schedule each'
+complete -c bendrika -n '__fish_seen_subcommand_from outcomes' -l page -x -d 'Print the timing page of one outcome: failing, of the first condition that fails, or a number'
 complete -c bendrika -n '__fish_seen_subcommand_from outcomes' -s q -l quiet -d 'Print no outcome, but the conditions and the number of outcomes'
 complete -c bendrika -n '__fish_seen_subcommand_from outcomes' -l limit -x -d 'Explore at most N states [default: 1000000]'
 complete -c bendrika -n '__fish_seen_subcommand_from outcomes' -l memory -x -d 'Keep no more states than fit in so many bytes; three quarters of the free memory without it'

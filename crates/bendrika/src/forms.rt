@@ -206,7 +206,7 @@ static SERVE: [Word; 1] = [Word {
 }];
 
 /// The words of `bendrika outcomes`.
-static OUTCOMES: [Word; 10] = [
+static OUTCOMES: [Word; 11] = [
     FILE,
     Word {
         name: "never",
@@ -231,6 +231,12 @@ static OUTCOMES: [Word; 10] = [
         value: "PLACES",
         kind: Kind::ExclusiveText("lines"),
         help: "Print the replies to these lines as a table, with a schedule each",
+    },
+    Word {
+        name: "page",
+        value: "WHICH",
+        kind: Kind::ExclusiveText("json"),
+        help: "Print the timing page of one outcome: failing, of the first condition that fails, or a number",
     },
     Word {
         name: "quiet",

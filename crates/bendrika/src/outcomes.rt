@@ -2,8 +2,10 @@
 use crate::fault::{Fault, printed};
 use crate::gathered::Gathered;
 use crate::input::{STANDARD_INPUT, name_of, read_file, refuse};
-use crate::memory::{free_bytes, states_within};
+use crate::memory::{free_bytes, most_bytes, states_within};
 use crate::outcomes_json::{json_limit, json_of};
+use crate::outcomes_limit::{frequent_line, report_limit, report_states};
+use crate::outcomes_page::{Chosen, page_of};
 use crate::status::Status;
 use clap::ArgMatches;
 use std::alloc::{AllocError, Global};
@@ -24,12 +26,23 @@ struct Stated<'a> {
     texts: Vec<&'a str>,
 }
 
-/// What is searched, and how the outcomes are printed.
+/// What is printed of a list.
+#[derive(Clone, Copy, Debug, PartialEq, Eq)]
+enum Print {
+    /// Its text.
+    Text,
+    /// Its text as objects.
+    Objects,
+    /// The page of one of its outcomes.
+    Page(Chosen),
+}
+
+/// What is searched, and what is printed.
 #[derive(Drop)]
 struct Search<'a> {
     name: &'a str,
     asked: &'a Asked<'a>,
-    json: bool,
+    print: Print,
     file: &'a [u8],
 }
 
@@ -55,7 +68,7 @@ fn kept_of(
     conditions: &[Condition<'_>],
 ) -> Result<(Option<Kept>, Form), AllocError> {
     if let Some(text) = words.get_str("show") {
-        let form = if words.get_flag("json") {
+        let form = if words.get_flag("json") || words.get_str("page").is_some() {
             Form::Paragraphs
         } else {
             Form::Table
@@ -70,8 +83,46 @@ fn kept_of(
     Ok((kept, Form::Paragraphs))
 }
 
+/// Returns what the words ask to be printed. `None` if they name no outcome for a page.
+fn print_of(words: &ArgMatches<'_>) -> Option<Print> {
+    let Some(word) = words.get_str("page") else {
+        return Some(if words.get_flag("json") {
+            Print::Objects
+        } else {
+            Print::Text
+        });
+    };
+    let chosen = Chosen::named(word)?;
+    let has_condition = words.get_strs("never").is_some() || words.get_strs("always").is_some();
+    if chosen == Chosen::Failing && !has_condition {
+        return None;
+    }
+    Some(Print::Page(chosen))
+}
+
+/// Returns whether the engine leaves out the outcomes: they are not asked for, or no page shows one by
+/// its number.
+fn is_quiet(words: &ArgMatches<'_>, print: Print) -> bool {
+    match print {
+        Print::Text | Print::Objects => words.get_flag("quiet"),
+        Print::Page(Chosen::Failing) => true,
+        Print::Page(Chosen::Number(_)) => false,
+    }
+}
+
+/// Reports a word that names no outcome. A failure of that write is ignored.
+fn wrong_page(rt: &HostRuntime) -> Status {
+    let _ = eprintln!(rt;
+        "bendrika: --page takes the number of an outcome, from 1, or failing with --never or --always"
+    );
+    Status::WrongWords
+}
+
 /// Lists the outcomes of the configuration file that the words name.
 pub(crate) fn listed(rt: &HostRuntime, words: &ArgMatches<'_>) -> Result<Status, Fault> {
+    let Some(print) = print_of(words) else {
+        return Ok(wrong_page(rt));
+    };
     let path = words.get_str("FILE").unwrap_or(STANDARD_INPUT);
     let stated = conditions_of(rt.alloc(), words)?;
     let (kept, form) = kept_of(rt.alloc(), words, stated.conditions.as_slice())?;
@@ -83,19 +134,20 @@ pub(crate) fn listed(rt: &HostRuntime, words: &ArgMatches<'_>) -> Result<Status,
     let asked = Asked {
         limit: words.get_one("limit").unwrap_or(1),
         form,
-        quiet: words.get_flag("quiet"),
+        quiet: is_quiet(words, print),
         kept: lines,
         conditions: stated.conditions.as_slice(),
     };
     match read_file(rt, path)? {
-        Some(file) => list_file(
-            rt,
-            name_of(path),
-            &asked,
-            words,
-            stated.texts.as_slice(),
-            file.as_slice(),
-        ),
+        Some(file) => {
+            let search = Search {
+                name: name_of(path),
+                asked: &asked,
+                print,
+                file: file.as_slice(),
+            };
+            list_file(rt, &search, words, stated.texts.as_slice())
+        }
         None => Ok(Status::Fault),
     }
 }
@@ -103,76 +155,91 @@ pub(crate) fn listed(rt: &HostRuntime, words: &ArgMatches<'_>) -> Result<Status,
 /// Lists the outcomes of the bytes of a file.
 fn list_file(
     rt: &HostRuntime,
-    name: &str,
-    asked: &Asked<'_>,
+    search: &Search<'_>,
     words: &ArgMatches<'_>,
     texts: &[&str],
-    file: &[u8],
 ) -> Result<Status, Fault> {
-    let json = words.get_flag("json");
     let bytes = match words.get_one::<usize>("memory") {
         Some(bytes) => bytes as u64,
         None => free_bytes(rt)?,
     };
-    let fitting = states_of_file(rt.alloc(), file, bytes)?;
-    let limit = asked.limit;
-    let asked = &asked.within(limit.min(fitting));
-    let search = Search {
-        name,
-        asked,
-        json,
-        file,
+    let fitting = states_of_file(rt.alloc(), search.file, bytes)?;
+    let limit = search.asked.limit;
+    let search = &Search {
+        name: search.name,
+        asked: &search.asked.within(limit.min(fitting)),
+        print: search.print,
+        file: search.file,
     };
     let end = if words.get_flag("progress") {
-        list_by_stages(rt, &search)
+        list_by_stages(rt, search)
     } else {
-        list_within(rt, &search, asked.limit)
+        list_within(rt, search, search.asked.limit)
     };
     match end {
-        Ok(true) => Ok(Status::Done),
-        Ok(false) => Ok(Status::Errors),
-        Err(OutcomesFault::Program(ProgramFault::Config(_))) => refuse(rt, name, file),
-        Err(OutcomesFault::Program(ProgramFault::Write)) => Err(Fault::Write),
-        Err(OutcomesFault::Program(_)) => Err(Fault::Memory),
+        Ok(status) => Ok(status),
+        Err(OutcomesFault::Program(fault)) => end_of(rt, search, fault),
         Err(OutcomesFault::Condition(i)) => {
-            let text = texts.get(i).copied().unwrap_or("");
-            let text = shown_name(rt.alloc(), text)?;
-            let name = shown_name(rt.alloc(), name)?;
-            let _ = eprintln!(rt;
-                "bendrika: `{text}` is no reply or bytes of memory that {name} can have"
-            );
-            Ok(Status::WrongWords)
+            wrong_condition(rt, search, texts.get(i).copied().unwrap_or(""))
         }
         Err(OutcomesFault::Line(i)) => {
             let places = words.get_str("show").or(words.get_str("lines"));
-            let place = places.unwrap_or("").split(',').nth(i).unwrap_or("");
-            let place = shown_name(rt.alloc(), place.trim())?;
-            let name = shown_name(rt.alloc(), name)?;
-            let _ = eprintln!(rt; "bendrika: {name} has no line `{place}`");
-            Ok(Status::WrongWords)
+            wrong_line(
+                rt,
+                search,
+                places.unwrap_or("").split(',').nth(i).unwrap_or(""),
+            )
         }
-        Err(OutcomesFault::Limit) => {
-            if json {
-                printed(rt, json_limit(rt.alloc(), name, asked.limit)?.as_str())?;
-            }
-            report_limit(rt, asked.limit, (fitting < limit).then_some(bytes));
-            Ok(Status::Limit)
-        }
+        Err(OutcomesFault::Limit) => end_at_limit(rt, search, (fitting < limit).then_some(bytes)),
     }
 }
 
-/// Reports on standard error that there are more states than the limit, and whether that is what fits
-/// in so many bytes of memory.
-fn report_limit(rt: &HostRuntime, limit: usize, bytes: Option<u64>) {
-    if let Some(bytes) = bytes {
-        let _ = eprintln!(rt;
-            "bendrika: more than {limit} states, which fill {bytes} bytes: make boards smaller, write fewer lines, or raise --memory"
-        );
-        return;
+/// Reports a condition that no outcome of the file can have.
+fn wrong_condition(rt: &HostRuntime, search: &Search<'_>, text: &str) -> Result<Status, Fault> {
+    let text = shown_name(rt.alloc(), text)?;
+    let name = shown_name(rt.alloc(), search.name)?;
+    let _ = eprintln!(rt; "bendrika: `{text}` is no reply or bytes of memory that {name} can have");
+    Ok(Status::WrongWords)
+}
+
+/// Reports a place at which the file has no line.
+fn wrong_line(rt: &HostRuntime, search: &Search<'_>, place: &str) -> Result<Status, Fault> {
+    let place = shown_name(rt.alloc(), place.trim())?;
+    let name = shown_name(rt.alloc(), search.name)?;
+    let _ = eprintln!(rt; "bendrika: {name} has no line `{place}`");
+    Ok(Status::WrongWords)
+}
+
+/// Reports a file that is no configuration, or returns another fault.
+fn end_of(rt: &HostRuntime, search: &Search<'_>, fault: ProgramFault) -> Result<Status, Fault> {
+    match fault {
+        ProgramFault::Config(_) => refuse(rt, search.name, search.file),
+        ProgramFault::Write => Err(Fault::Write),
+        _ => Err(Fault::Memory),
     }
-    let _ = eprintln!(rt;
-        "bendrika: more than {limit} states: write fewer lines, or raise --limit"
-    );
+}
+
+/// Reports that there are more states than the limit, or than fit in so many bytes.
+fn end_at_limit(
+    rt: &HostRuntime,
+    search: &Search<'_>,
+    bytes: Option<u64>,
+) -> Result<Status, Fault> {
+    let limit = search.asked.limit;
+    let used = most_bytes(rt)?;
+    let line = match Config::read(rt.alloc(), search.file) {
+        Ok(config) => frequent_line(rt.alloc(), &config, limit),
+        Err(_) => None,
+    };
+    if search.print == Print::Objects {
+        printed(
+            rt,
+            json_limit(rt.alloc(), search.name, limit, line)?.as_str(),
+        )?;
+    }
+    report_limit(rt, limit, bytes);
+    report_states(rt, limit, used, line);
+    Ok(Status::Limit)
 }
 
 /// Returns how many states of a configuration file fit in so many bytes; any number, if the file is no
@@ -185,37 +252,53 @@ fn states_of_file(alloc: Global, file: &[u8], bytes: u64) -> Result<usize, Alloc
     }
 }
 
-/// Runs the engine on the bytes of a file. As JSON, it prints what the engine writes as objects.
-fn list_within(rt: &HostRuntime, search: &Search<'_>, limit: usize) -> Result<bool, OutcomesFault> {
+/// Runs the engine on the bytes of a file, and prints what is asked of the list.
+fn list_within(
+    rt: &HostRuntime,
+    search: &Search<'_>,
+    limit: usize,
+) -> Result<Status, OutcomesFault> {
     let asked = search.asked.within(limit);
     let mut source = SliceSource::new(search.file, usize::MAX, usize::MAX);
-    if !search.json {
+    if search.print == Print::Text {
         let mut writer = Io::new(io::writer(rt));
-        return outcomes_engine(rt.alloc(), &asked, &mut source, &mut writer);
+        let holds = outcomes_engine(rt.alloc(), &asked, &mut source, &mut writer)?;
+        return Ok(status_of(holds));
     }
     let mut gathered = Gathered::new(rt.alloc());
-    match outcomes_engine(rt.alloc(), &asked, &mut source, &mut gathered) {
-        Ok(holds) => match print_objects(rt, search.name, gathered.text()) {
-            Ok(()) => Ok(holds),
-            Err(Fault::Write) => Err(OutcomesFault::Program(ProgramFault::Write)),
-            Err(Fault::Memory) => Err(OutcomesFault::Program(ProgramFault::Memory)),
-        },
+    let holds = match outcomes_engine(rt.alloc(), &asked, &mut source, &mut gathered) {
+        Ok(holds) => holds,
         Err(OutcomesFault::Program(ProgramFault::Write)) => {
-            Err(OutcomesFault::Program(ProgramFault::Memory))
+            return Err(OutcomesFault::Program(ProgramFault::Memory));
         }
-        Err(fault) => Err(fault),
+        Err(fault) => return Err(fault),
+    };
+    match print_list(rt, search, gathered.text()) {
+        Ok(Status::Done) => Ok(status_of(holds)),
+        Ok(status) => Ok(status),
+        Err(Fault::Write) => Err(OutcomesFault::Program(ProgramFault::Write)),
+        Err(Fault::Memory) => Err(OutcomesFault::Program(ProgramFault::Memory)),
     }
 }
 
-/// Prints the text of a list as objects.
-fn print_objects(rt: &HostRuntime, name: &str, text: &[u8]) -> Result<(), Fault> {
+/// Returns the status of a list by whether each condition holds.
+fn status_of(holds: bool) -> Status {
+    if holds { Status::Done } else { Status::Errors }
+}
+
+/// Prints what is asked of a list with this text.
+fn print_list(rt: &HostRuntime, search: &Search<'_>, text: &[u8]) -> Result<Status, Fault> {
+    if let Print::Page(chosen) = search.print {
+        return page_of(rt, search.name, search.file, chosen, text);
+    }
     let text = std::str::from_utf8(text).unwrap_or("");
-    printed(rt, json_of(rt.alloc(), name, text)?.as_str())
+    printed(rt, json_of(rt.alloc(), search.name, text)?.as_str())?;
+    Ok(Status::Done)
 }
 
 /// Runs the engine with one limit after another, and reports on standard error which were passed. A
 /// search that passes its limit has written nothing, and the next one begins anew.
-fn list_by_stages(rt: &HostRuntime, search: &Search<'_>) -> Result<bool, OutcomesFault> {
+fn list_by_stages(rt: &HostRuntime, search: &Search<'_>) -> Result<Status, OutcomesFault> {
     let asked = search.asked;
     let limit = asked.limit;
     for stage in STAGES {

@@ -1,4 +1,5 @@
 //! `bendrika outcomes --json`: the text of a list as JSON objects, one a line.
+use crate::outcomes_limit::Frequent;
 use crate::words::VERSION;
 use std::alloc::{AllocError, Global};
 use std::fmt::Write;
@@ -45,15 +46,25 @@ pub(crate) fn json_of(alloc: Global, name: &str, text: &str) -> Result<String, A
     Ok(objects.to)
 }
 
-/// Returns the object of a search that passed its limit.
-pub(crate) fn json_limit(alloc: Global, name: &str, limit: usize) -> Result<String, AllocError> {
+/// Returns the object of a search that passed its limit, with the line at which most states are.
+pub(crate) fn json_limit(
+    alloc: Global,
+    name: &str,
+    limit: usize,
+    line: Option<Frequent>,
+) -> Result<String, AllocError> {
     let mut to = String::new(alloc);
     to.push_str("{\"file\":\"")?;
     write_escaped(name, &mut to)?;
     write!(
         to,
-        "\",\"complete\":false,\"fault\":\"limit\",\"states\":{limit}}}\n"
+        "\",\"complete\":false,\"fault\":\"limit\",\"states\":{limit}"
     )?;
+    if let Some(line) = line {
+        let (slot, number) = (line.slot, line.number);
+        write!(to, ",\"line\":\"{slot}:{number}\"")?;
+    }
+    to.push_str("}\n")?;
     Ok(to)
 }
 

@@ -10,7 +10,7 @@ use vme_page::page_engine;
 use vme_trace::EventRange;
 
 /// The events that a page shows if nothing else is said.
-const SHOWN: EventRange = EventRange {
+pub(crate) const SHOWN: EventRange = EventRange {
     first: 1,
     last: 1000,
 };
@@ -33,7 +33,7 @@ pub(crate) fn paged(rt: &HostRuntime, words: &ArgMatches<'_>) -> Result<Status, 
 
 /// Writes the page of the bytes of a file. One that is no configuration is reported as by `check`, on
 /// standard error.
-fn page_file(
+pub(crate) fn page_file(
     rt: &HostRuntime,
     name: &str,
     range: EventRange,
