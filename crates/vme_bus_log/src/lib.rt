@@ -6,6 +6,7 @@ mod entry;
 mod fault;
 mod fields;
 mod parse;
+mod parts;
 mod print;
 mod reader;
 mod word;

@@ -1,8 +1,18 @@
 //! A line of a bus log.
+ghost use Rattle.std.specs.Prelude.{◌≡◌, ◌↔◌, None, IsOk};
+ghost use Rattle.std.specs.Option.{option_map, option_and_then};
+ghost use Rattle.std.specs.Result.{result_ok};
+ghost use Rattle.vme_lexer.specs.Numbers.{hex_number};
+ghost use Rattle.vme_bus_log.specs.Words.{next_word};
+ghost use Rattle.vme_bus_log.specs.Fields.{reads};
+ghost use Rattle.vme_bus_log.specs.Entries.{modifier_in, names_in, levels_in, answer_word, slot_in, holder_by, answer_in, datum_in, direction, bytes_of, access_names_in, access_bytes_in, said_access, said_by, entry_of};
+
 use crate::entry::{LogAccess, LogDatum, LogEntry};
 use crate::fault::LogFault;
 use crate::fields::Fields;
-use crate::word::{decimal, hexadecimal};
+use crate::parts::{Answer, Levels, Names};
+use crate::word::decimal;
+use vme_lexer::hex_number;
 
 /// The greatest slot.
 const LAST_SLOT: u32 = 21;
@@ -12,7 +22,9 @@ const LAST_SLOT: u32 = 21;
 /// # Errors
 ///
 /// Why the line is none of a bus log.
-pub fn parse_entry(line: &[u8]) -> Result<LogEntry, LogFault> {
+pub fn parse_entry(line: &[u8]) -> Result<LogEntry, LogFault>
+    ensures { result_ok result ≡ entry_of line.now }
+{
     let mut fields = Fields::new(line);
     let Some(first) = fields.peek() else {
         return Ok(LogEntry::Nothing);
@@ -21,55 +33,105 @@ pub fn parse_entry(line: &[u8]) -> Result<LogEntry, LogFault> {
     if time.is_some() {
         let _ = fields.word();
     }
-    match fields.peek() {
-        Some(b"lp") => access(fields, time),
-        Some([b'n', b'=', ..]) => datum(fields, time),
+    said(fields, time)
+}
+
+/// What a line says after its time.
+fn said(from: Fields<'_>, time: Option<u64>) -> Result<LogEntry, LogFault>
+    ensures { result_ok result ≡ said_by time from.entry.rest.now (next_word from.entry.rest.now) }
+{
+    match from.peek() {
+        Some(b"lp") => access(from, time),
+        Some([b'n', b'=', ..]) => datum(from, time),
         _ => Err(LogFault::NoEntry),
     }
 }
 
 /// The line of a datum.
-fn datum(from: Fields<'_>, time: Option<u64>) -> Result<LogEntry, LogFault> {
+fn datum(from: Fields<'_>, time: Option<u64>) -> Result<LogEntry, LogFault>
+    ensures { result_ok result ≡ datum_in time from.entry.rest.now }
+{
     let mut fields = from;
-    let index = fields.count("n=")?;
-    let am = modifier(&mut fields)?;
-    let address = fields.hex("a=", 8)?;
-    let ds1 = fields.level("ds1=")?;
-    let ds0 = fields.level("ds0=")?;
-    let a01 = fields.level("a01=")?;
-    let lword = fields.level("lword=")?;
-    let write = fields.level("write=")?;
-    let (lines, idle, is_wide) = fields.data("data=")?;
-    let is_acknowledged = answer(&mut fields)?;
-    let slot = holder(&mut fields)?;
+    let Names { index, am, address } = names(&mut fields)?;
+    let levels = levels(&mut fields)?;
+    let answer = answer(&mut fields)?;
     Ok(LogEntry::Datum(LogDatum {
         time,
         index,
         am,
         address,
+        ds1: levels.ds1,
+        ds0: levels.ds0,
+        a01: levels.a01,
+        lword: levels.lword,
+        write: levels.write,
+        lines: answer.lines,
+        idle: answer.idle,
+        is_wide: answer.is_wide,
+        is_acknowledged: answer.is_acknowledged,
+        slot: answer.slot,
+    }))
+}
+
+/// The number, the code and the address of a datum.
+fn names(fields: &mut Fields<'_>) -> Result<Names, LogFault>
+    ensures { option_map (λ it. (it, fields.new.rest.now)) (result_ok result) ≡ names_in fields.old.rest.now }
+{
+    let index = fields.count("n=")?;
+    let am = modifier(fields)?;
+    let address = fields.hex("a=", 8)?;
+    Ok(Names { index, am, address })
+}
+
+/// The levels of lines.
+fn levels(fields: &mut Fields<'_>) -> Result<Levels, LogFault>
+    ensures { option_map (λ it. (it, fields.new.rest.now)) (result_ok result) ≡ levels_in fields.old.rest.now }
+{
+    let ds1 = fields.level("ds1=")?;
+    let ds0 = fields.level("ds0=")?;
+    let a01 = fields.level("a01=")?;
+    let lword = fields.level("lword=")?;
+    let write = fields.level("write=")?;
+    Ok(Levels {
         ds1,
         ds0,
         a01,
         lword,
         write,
+    })
+}
+
+/// The data, the answer and the slot, at the end of the line.
+fn answer(fields: &mut Fields<'_>) -> Result<Answer, LogFault>
+    ensures { result_ok result ≡ answer_in fields.old.rest.now }
+{
+    let (lines, idle, is_wide) = fields.data("data=")?;
+    let is_acknowledged = acknowledged(fields)?;
+    let slot = holder(fields)?;
+    Ok(Answer {
         lines,
         idle,
         is_wide,
         is_acknowledged,
         slot,
-    }))
+    })
 }
 
 /// The address modifier, at most 3f.
-fn modifier(fields: &mut Fields<'_>) -> Result<u8, LogFault> {
-    match u8::try_from(fields.hex("am=", 2)?) {
-        Ok(code) if code < 64 => Ok(code),
-        _ => Err(LogFault::BadWord("am=")),
+fn modifier(fields: &mut Fields<'_>) -> Result<u8, LogFault>
+    ensures { option_map (λ it. (it, fields.new.rest.now)) (result_ok result) ≡ modifier_in fields.old.rest.now }
+{
+    let code = fields.hex("am=", 2)?;
+    if 64 <= code {
+        return Err(LogFault::BadWord("am="));
     }
+    Ok(code as u8)
 }
 
 /// Whether the answer is DTACK*.
-fn answer(fields: &mut Fields<'_>) -> Result<bool, LogFault> {
+fn acknowledged(fields: &mut Fields<'_>) -> Result<bool, LogFault>
+    ensures { option_map (λ it. (it, fields.new.rest.now)) (result_ok result) ≡ option_and_then (reads answer_word) (next_word fields.old.rest.now) }
+{
     match fields.word() {
         Some(b"dtack") => Ok(true),
         Some(b"berr") => Ok(false),
@@ -79,7 +141,9 @@ fn answer(fields: &mut Fields<'_>) -> Result<bool, LogFault> {
 }
 
 /// The slot that drives BBSY*, if the line has it, at the end of the line.
-fn holder(fields: &mut Fields<'_>) -> Result<Option<u8>, LogFault> {
+fn holder(fields: &mut Fields<'_>) -> Result<Option<u8>, LogFault>
+    ensures { result_ok result ≡ holder_by fields.old.rest.now (next_word fields.old.rest.now) }
+{
     if fields.peek().is_none() {
         return Ok(None);
     }
@@ -89,16 +153,20 @@ fn holder(fields: &mut Fields<'_>) -> Result<Option<u8>, LogFault> {
 }
 
 /// A slot, 1 to 21.
-fn slot(fields: &mut Fields<'_>) -> Result<u8, LogFault> {
+fn slot(fields: &mut Fields<'_>) -> Result<u8, LogFault>
+    ensures { option_map (λ it. (it, fields.new.rest.now)) (result_ok result) ≡ slot_in fields.old.rest.now }
+{
     let slot = fields.count("slot=")?;
     if slot < 1 || LAST_SLOT < slot {
         return Err(LogFault::BadWord("slot="));
     }
-    u8::try_from(slot).map_err(|_| LogFault::BadWord("slot="))
+    Ok(slot as u8)
 }
 
 /// The line has no further word.
-fn ended(fields: &mut Fields<'_>) -> Result<(), LogFault> {
+fn ended(fields: &mut Fields<'_>) -> Result<(), LogFault>
+    ensures { IsOk result ↔ (next_word fields.old.rest.now ≡ None) }
+{
     match fields.word() {
         None => Ok(()),
         Some(_) => Err(LogFault::MoreWords),
@@ -106,30 +174,15 @@ fn ended(fields: &mut Fields<'_>) -> Result<(), LogFault> {
 }
 
 /// The line of an access by a local port.
-fn access(from: Fields<'_>, time: Option<u64>) -> Result<LogEntry, LogFault> {
+fn access(from: Fields<'_>, time: Option<u64>) -> Result<LogEntry, LogFault>
+    ensures { result_ok result ≡ said_access time (next_word from.entry.rest.now) }
+{
     let mut fields = from;
-    let _ = fields.word();
-    let slot = slot(&mut fields)?;
-    let is_write = match fields.word() {
-        Some(b"r") => false,
-        Some(b"w") => true,
-        Some(_) => return Err(LogFault::BadWord("w")),
-        None => return Err(LogFault::Missing("w")),
-    };
-    let offset = match fields.word() {
-        Some(word) if word.len() == 8 => hexadecimal(word).ok_or(LogFault::BadWord("OFFSET"))?,
-        Some(_) => return Err(LogFault::BadWord("OFFSET")),
-        None => return Err(LogFault::Missing("OFFSET")),
-    };
-    let word = fields.word().ok_or(LogFault::Missing("BYTES"))?;
-    let bytes = hexadecimal(word).ok_or(LogFault::BadWord("BYTES"))?;
-    let len = match word.len() {
-        2 => 1,
-        4 => 2,
-        8 => 4,
-        _ => return Err(LogFault::BadWord("BYTES")),
-    };
-    ended(&mut fields)?;
+    if fields.word().is_none() {
+        return Err(LogFault::NoEntry);
+    }
+    let (slot, is_write, offset) = access_names(&mut fields)?;
+    let (len, bytes) = access_bytes(&mut fields)?;
     Ok(LogEntry::Access(LogAccess {
         time,
         slot,
@@ -138,4 +191,74 @@ fn access(from: Fields<'_>, time: Option<u64>) -> Result<LogEntry, LogFault> {
         len,
         bytes,
     }))
+}
+
+/// The slot, the direction and the offset of an access.
+fn access_names(fields: &mut Fields<'_>) -> Result<(u8, bool, u32), LogFault>
+    ensures { option_map (λ it. (it, fields.new.rest.now)) (result_ok result) ≡ access_names_in fields.old.rest.now }
+{
+    let slot = slot(fields)?;
+    let is_write = direction(fields)?;
+    let offset = offset(fields)?;
+    Ok((slot, is_write, offset))
+}
+
+/// The bytes of an access and their number, at the end of the line.
+fn access_bytes(fields: &mut Fields<'_>) -> Result<(u8, u32), LogFault>
+    ensures { result_ok result ≡ access_bytes_in fields.old.rest.now }
+{
+    let bytes = bytes(fields)?;
+    ended(fields)?;
+    Ok(bytes)
+}
+
+/// Whether an access is a write.
+fn direction(fields: &mut Fields<'_>) -> Result<bool, LogFault>
+    ensures { option_map (λ it. (it, fields.new.rest.now)) (result_ok result) ≡ option_and_then (reads direction) (next_word fields.old.rest.now) }
+{
+    match fields.word() {
+        Some(b"r") => Ok(false),
+        Some(b"w") => Ok(true),
+        Some(_) => Err(LogFault::BadWord("w")),
+        None => Err(LogFault::Missing("w")),
+    }
+}
+
+/// The offset of an access.
+fn offset(fields: &mut Fields<'_>) -> Result<u32, LogFault>
+    ensures { option_map (λ it. (it, fields.new.rest.now)) (result_ok result) ≡ option_and_then (reads (hex_number 8)) (next_word fields.old.rest.now) }
+{
+    let Some(word) = fields.word() else {
+        return Err(LogFault::Missing("OFFSET"));
+    };
+    match hex_number(8, word) {
+        Some(offset) => Ok(offset),
+        None => Err(LogFault::BadWord("OFFSET")),
+    }
+}
+
+/// The bytes of an access, and their number.
+fn bytes(fields: &mut Fields<'_>) -> Result<(u8, u32), LogFault>
+    ensures { option_map (λ it. (it, fields.new.rest.now)) (result_ok result) ≡ option_and_then (reads bytes_of) (next_word fields.old.rest.now) }
+{
+    let Some(word) = fields.word() else {
+        return Err(LogFault::Missing("BYTES"));
+    };
+    match bytes_of(word) {
+        Some(bytes) => Ok(bytes),
+        None => Err(LogFault::BadWord("BYTES")),
+    }
+}
+
+/// One, two or four bytes, and their number.
+fn bytes_of(word: &[u8]) -> Option<(u8, u32)>
+    ensures { result ≡ bytes_of word.now }
+{
+    let len = match word.len() {
+        2 => 1,
+        4 => 2,
+        8 => 4,
+        _ => return None,
+    };
+    Some((len, hex_number(word.len(), word)?))
 }

@@ -4,10 +4,14 @@
 #![tactic(auto)]
 
 #[cfg(test)]
+mod answers;
+#[cfg(test)]
 mod course;
 #[cfg(test)]
 mod edits;
 #[cfg(test)]
 mod known;
+#[cfg(test)]
+mod ports;
 #[cfg(test)]
 mod transfers;

@@ -265,10 +265,8 @@ pub(crate) static SIGNALS: [Text; 12] = [
             input: Input::Dump {
                 words: "",
                 changes: "\
-                    #10 0S\n\
-                    #20 0U 0V\n\
-                    #30 b1 d\n\
-                    #40 0D\n\
+                    #10 0S\n#20 0U 0V\n\
+                    #30 b1 d\n#40 0D\n\
                     #50 1D\n",
             },
             shows: "\
