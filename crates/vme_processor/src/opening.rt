@@ -1,7 +1,7 @@
 ghost use Rattle.std.specs.Prelude.{◌≡◌, IfOk};
 ghost use Rattle.vme_port_array.specs.Arrays.{opening};
 ghost use Rattle.vme_machine.specs.Members.{AreNew};
-ghost use Rattle.vme_processor.specs.Processors.{Machine, objects_at_first, members_of};
+ghost use Rattle.vme_processor.specs.Processors.{Machine, objects_at_first, members_of, ArePlaced};
 
 use crate::processor::Processor;
 use std::alloc::{AllocError, Global};
@@ -60,8 +60,9 @@ pub fn open(
     map: AddressMap,
     places: &[Place],
 ) -> Result<Vec<Processor>, OpenError>
-    ensures { IfOk result (λ ps. (machine : Machine) × (opening machine ≡ objects_at_first memories.items kind)
+    ensures new { IfOk result (λ ps. (machine : Machine) × (opening machine ≡ objects_at_first memories.items kind)
         × AreNew machine (members_of ps.items)) }
+    ensures placed { IfOk result (λ ps. ArePlaced map places.now ps.items) }
 {
     let boards = memories.len();
     if places.len() != boards {
@@ -83,8 +84,8 @@ pub fn open(
     };
     let mut processors = Vec::new(alloc);
     for member in members {
-        let index = member.who();
-        if member.objects() != boards + 1 || index >= boards {
+        let index = processors.len();
+        if member.who() != index || member.objects() != boards + 1 || index >= boards {
             return Err(OpenError::BadCount);
         }
         let Place { slot, level } = places[index];
