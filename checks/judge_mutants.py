@@ -109,6 +109,10 @@ class Wave:
                 rise = time
         return found
 
+    def has_access(self) -> bool:
+        """Whether a local port answers."""
+        return any(value == "1" and name.endswith("_lp_ack") for them in self.changes.values() for name, value in them.items())
+
     def slots(self) -> list[int]:
         return sorted(int(name[1:].partition("_")[0]) for name in self.codes if name.endswith("_br_n") and name[1].isdigit())
 
@@ -306,6 +310,10 @@ ERRORS += [Mutant(f"changes_{name}", changes_address(name), True) for name in ("
 ERRORS += [Mutant(made.__name__, made, False) for made in (wrong_read, other_answer)]
 
 
+# Errors whose lines stay wrong after the transfer.
+LASTING = {"second_holder", "no_holder"}
+
+
 def strobes_apart(wave, it, rng):
     both = wave.low_strobes(it.strobes)
     if len(both) == 2:
@@ -363,15 +371,31 @@ def pipelined(wave, it, rng):
 LEGAL = [early_address_strobe, pipelined, strobes_apart, strobes_rise_apart, later_answer, idle_lines, idle_lanes, written_again, cut_end]
 
 
-def errors(text: str, seed: int, places: int) -> Iterator[tuple[str, str, set[str], bool]]:
-    """Errors of a waveform: the name, the dump, the codes that may name it, and whether the protocol shows it."""
+def errors(text: str, seed: int, places: int, kinds: int = len(ERRORS)) -> Iterator[tuple[str, str, set[str], bool]]:
+    """Errors of a waveform, of some kinds or of all: the name, the dump, the codes that may name it, and whether the protocol shows
+    it."""
     wave, rng = Wave(text), random.Random(seed)
     handshakes = wave.handshakes()
-    for mutant in ERRORS:
+    for mutant in ERRORS if kinds == len(ERRORS) else rng.sample(ERRORS, kinds):
         for it in rng.sample(handshakes, min(places, len(handshakes))):
             made = wave.copy()
             for codes in mutant.make(made, it, rng):
                 yield mutant.name, made.text(), codes, mutant.by_protocol
+
+
+def twice(text: str, seed: int) -> Iterator[tuple[str, str, set[str]]]:
+    """Waveforms with the same error in two transfers, of which neither is the last: the name, the dump, and the codes that may name
+    the error."""
+    wave, rng = Wave(text), random.Random(seed)
+    alone = [it for it in wave.handshakes() if it.begins and it.ends]
+    for mutant in ERRORS if len(alone) > 2 else ():
+        if mutant.name in LASTING:
+            continue
+        first, second = sorted(rng.sample(alone[:-1], 2))
+        made = wave.copy()
+        codes = [codes for it in (first, second) for codes in mutant.make(made, it, rng)]
+        if len(codes) == 2:
+            yield mutant.name, made.text(), codes[0] | codes[1]
 
 
 def legal_ones(text: str, seed: int, places: int) -> Iterator[tuple[str, str]]:

@@ -20,6 +20,7 @@ struct Limits {
     open: Vec<OpenBytes>,
     ignored: u64,
     timeout: Option<u64>,
+    limit: u64,
 }
 
 /// Judges the trace that the words name, by the boards of their file.
@@ -58,6 +59,7 @@ pub(crate) fn judged(rt: &HostRuntime, words: &ArgMatches<'_>) -> Result<Status,
         quiet: words.get_flag("quiet"),
         ignored: limits.ignored,
         timeout: limits.timeout,
+        limit: limits.limit,
         open: limits.open.as_slice(),
     };
     if trace == STANDARD_INPUT {
@@ -97,10 +99,12 @@ fn limits_of(
         wrong(rt, "--timeout is a number below 2^64");
         return Ok(None);
     };
+    let limit: usize = words.get_one("limit").unwrap_or(1);
     Ok(Some(Limits {
         open,
         ignored,
         timeout,
+        limit: limit as u64,
     }))
 }
 

@@ -2,7 +2,7 @@
 use crate::forms::{JSON, Kind, Word};
 
 /// The words of `bendrika judge`.
-pub(crate) static JUDGE: [Word; 13] = [
+pub(crate) static JUDGE: [Word; 14] = [
     Word {
         name: "FILE",
         value: "FILE",
@@ -62,6 +62,12 @@ pub(crate) static JUDGE: [Word; 13] = [
         value: "N",
         kind: Kind::Text,
         help: "An answer comes within N units of the dump's time",
+    },
+    Word {
+        name: "limit",
+        value: "N",
+        kind: Kind::Number("1"),
+        help: "Go on after an illegal sample, up to N findings; 0 is no limit",
     },
     Word {
         name: "log",

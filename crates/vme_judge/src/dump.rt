@@ -79,13 +79,15 @@ impl Ports {
             match local_access(&before, &port) {
                 Ok(None) => {}
                 Ok(Some(access)) => {
-                    if !judge.access(slot, &access, spot)? {
+                    if !judge.access(slot, &access, spot)? && !judge.goes_on()? {
                         return Ok(false);
                     }
                 }
                 Err(rule) => {
                     judge.port_breaks(rule, slot, spot);
-                    return Ok(false);
+                    if !judge.goes_on()? {
+                        return Ok(false);
+                    }
                 }
             }
         }
@@ -108,7 +110,7 @@ pub(crate) fn take_sample(
         line: vcd.sample_line(),
         time: Some(time),
     };
-    if !vcd.is_changed() && judge.options.timeout.is_none() && judge.is_begun() {
+    if !vcd.is_changed() && judge.options.timeout.is_none() && judge.is_judging() {
         crate::counts::count(&mut judge.counts.samples);
         return Ok(true);
     }
@@ -119,7 +121,7 @@ pub(crate) fn take_sample(
     } else {
         None
     };
-    if !judge.take(&sample, spot, undefined)? {
+    if !judge.take(&sample, spot, undefined)? && !judge.goes_on()? {
         return Ok(false);
     }
     ports.take(judge, bus, spot)

@@ -49,22 +49,22 @@ pub fn judge_engine<'a, S: Source, W: Sink>(
         if !run.push_all(&buffer[..count])? {
             return written(alloc, &run, options, map, writer);
         }
-        write_log(&mut run.judge.log, writer)?;
+        write_pending(&mut run.judge.pending, writer)?;
     }
     Err(JudgeFault::TooLong)
 }
 
-/// Writes the lines of the bus log that are not written yet.
-fn write_log<W: Sink>(log: &mut String, writer: &mut W) -> Result<(), JudgeFault>
+/// Writes what is not written yet.
+fn write_pending<W: Sink>(pending: &mut String, writer: &mut W) -> Result<(), JudgeFault>
     requires { W.is_marked writer.old ≡ false }
     ensures read { is_read_end result ≡ false }
     ensures write { W.is_marked writer.new ≡ is_write_end result }
 {
-    if log.is_empty() {
+    if pending.is_empty() {
         return Ok(());
     }
-    write_all(writer, log.as_bytes())?;
-    log.clear();
+    write_all(writer, pending.as_bytes())?;
+    pending.clear();
     Ok(())
 }
 
@@ -80,8 +80,8 @@ fn written<W: Sink>(
     ensures read { is_read_end result ≡ false }
     ensures write { W.is_marked writer.new ≡ is_write_end result }
 {
-    if !run.judge.log.is_empty() {
-        write_all(writer, run.judge.log.as_bytes())?;
+    if !run.judge.pending.is_empty() {
+        write_all(writer, run.judge.pending.as_bytes())?;
     }
     let mut text = String::new(alloc);
     let status = write_end(alloc, run, options, map, &mut text)?;

@@ -1,4 +1,8 @@
 //! The judgement of a trace, sample by sample.
+ghost use Rattle.std.specs.Prelude.{◌≡◌, Some, IfOk, IfSome, IsTrue};
+ghost use Rattle.vme_protocol.specs.Watching.{shown, next_watch};
+ghost use Rattle.vme_judge.specs.Legal.{accepts, is_legal, answers_after};
+
 use crate::boards::Board;
 use crate::counts::{Counts, count};
 use crate::finding::{Asked, Broken, Finding};
@@ -20,16 +24,21 @@ pub(crate) struct Spot {
 /// What is known of a trace so far.
 #[derive(Drop)]
 pub(crate) struct Judge<'a> {
+    pub(crate) alloc: Global,
     pub(crate) options: &'a Options<'a>,
     pub(crate) boards: &'a [Board],
-    answers: Option<Answers>,
-    watch: Option<Watch>,
+    pub(crate) answers: Option<Answers>,
+    pub(crate) watch: Option<Watch>,
     pub(crate) scope: Scope,
     pub(crate) counts: Counts,
     pub(crate) transfer: Option<OpenTransfer>,
     pub(crate) finding: Option<Finding>,
-    /// The lines of the bus log that are not written yet.
-    pub(crate) log: String,
+    /// The number of findings before it.
+    pub(crate) found: u64,
+    /// Whether AS* was low in the last of the samples that were left out.
+    pub(crate) is_under: bool,
+    /// What is not written yet: lines of the bus log, and findings after which the judgement went on.
+    pub(crate) pending: String,
 }
 
 /// The bytes that the words open, with the boards' indices.
@@ -91,6 +100,7 @@ impl<'a> Judge<'a> {
         boards: &'a [Board],
     ) -> Result<Judge<'a>, AllocError> {
         Ok(Judge {
+            alloc,
             options,
             boards,
             answers: answers_of(alloc, options, boards)?,
@@ -111,12 +121,19 @@ impl<'a> Judge<'a> {
             counts: Counts::NONE,
             transfer: None,
             finding: None,
-            log: String::new(alloc),
+            found: 0,
+            is_under: false,
+            pending: String::new(alloc),
         })
     }
 
     /// Returns whether a sample at rest was seen.
     pub(crate) fn is_begun(&self) -> bool {
+        self.watch.is_some() || self.found != 0
+    }
+
+    /// Returns whether the next sample is judged by the one before it.
+    pub(crate) fn is_judging(&self) -> bool {
         self.watch.is_some()
     }
 
@@ -130,27 +147,28 @@ impl<'a> Judge<'a> {
         sample: &Sample,
         spot: Spot,
         undefined: Option<&'static str>,
-    ) -> Result<bool, AllocError> {
+    ) -> Result<bool, AllocError>
+        ensures legal { IfOk result (λ legal. legal ≡ is_legal self.old.watch self.old.answers sample.now) }
+        ensures watch { IfOk result (λ legal. IsTrue legal →
+            IfSome self.old.watch (λ w. self.new.watch ≡ Some (next_watch w sample.now))) }
+        ensures answers { IfOk result (λ legal. IsTrue legal →
+            IfSome self.old.watch (λ w. self.new.answers ≡ answers_after self.old.answers (shown w sample.now))) }
+    {
         let Some(watch) = self.watch.as_mut() else {
-            if sample.is_at_rest() {
-                self.watch = Some(Watch::new(self.scope, *sample));
-                count(&mut self.counts.samples);
-            } else {
-                count(&mut self.counts.skipped);
-            }
+            self.leave_out(sample);
             return Ok(true);
         };
         count(&mut self.counts.samples);
-        let before = watch.last;
+        let (before, transfer) = (watch.last, watch.transfer);
         let datum = match watch.push(sample) {
             Ok(datum) => datum,
             Err(rule) => {
-                self.find(
-                    spot,
-                    Broken::Order(rule),
-                    Some((before, *sample)),
-                    undefined,
-                );
+                let samples = Some((before, *sample));
+                self.find(spot, Broken::Order(rule), samples, undefined);
+                if !before.address_strobe {
+                    self.forget(&transfer, false);
+                }
+                self.begin_after(sample);
                 return Ok(false);
             }
         };
@@ -183,7 +201,10 @@ impl<'a> Judge<'a> {
     }
 
     /// Notes that a transfer or a tenure begins at a sample.
-    fn opens(&mut self, before: &Sample, sample: &Sample) {
+    fn opens(&mut self, before: &Sample, sample: &Sample)
+        ensures watch { self.new.watch ≡ self.old.watch }
+        ensures answers { self.new.answers ≡ self.old.answers }
+    {
         if before.address_strobe && !sample.address_strobe {
             self.transfer = Some(OpenTransfer::opened(sample));
             if sample.iack {
@@ -196,7 +217,10 @@ impl<'a> Judge<'a> {
     }
 
     /// Notes that a transfer ends at a sample.
-    fn closes(&mut self, before: &Sample, sample: &Sample) {
+    fn closes(&mut self, before: &Sample, sample: &Sample)
+        ensures watch { self.new.watch ≡ self.old.watch }
+        ensures answers { self.new.answers ≡ self.old.answers }
+    {
         if !before.address_strobe && sample.address_strobe {
             self.transfer = None;
         }
@@ -209,14 +233,18 @@ impl<'a> Judge<'a> {
         spot: Spot,
         before: &Sample,
         sample: &Sample,
-    ) -> Result<bool, AllocError> {
+    ) -> Result<bool, AllocError>
+        ensures legal { IfOk result (λ legal. legal ≡ accepts self.old.answers (Some datum.now)) }
+        ensures watch { IfOk result (λ legal. IsTrue legal → self.new.watch ≡ self.old.watch) }
+        ensures answers { IfOk result (λ legal. IsTrue legal → self.new.answers ≡ answers_after self.old.answers (Some datum.now)) }
+    {
         count(&mut self.counts.data);
         if let Some(transfer) = self.transfer.as_mut() {
             transfer.data = u64::from(datum.index);
         }
         if self.options.log {
             let slot = driver_of(sample.drivers);
-            print_datum(&log_datum(datum, spot.time, slot), &mut self.log)?;
+            print_datum(&log_datum(datum, spot.time, slot), &mut self.pending)?;
         }
         let Some(answers) = self.answers.as_mut() else {
             return Ok(true);
@@ -224,9 +252,18 @@ impl<'a> Judge<'a> {
         let Err(wrong) = answers.take(datum) else {
             return Ok(true);
         };
+        if let Some(board) = wrong.board {
+            let end = wrong.offset.saturating_add(u32::from(wrong.len));
+            answers.forget(board, wrong.offset, end);
+        }
         let slot = self.slot_of(&wrong);
         let broken = Broken::Answer(wrong, Asked::Datum(*datum), slot);
         self.find(spot, broken, Some((*before, *sample)), None);
+        if let Some(watch) = &self.watch {
+            let transfer = watch.transfer;
+            self.forget(&transfer, false);
+        }
+        self.begin_after(sample);
         Ok(false)
     }
 
@@ -236,9 +273,17 @@ impl<'a> Judge<'a> {
         Some(board.slot)
     }
 
-    /// Takes a rule that a local port breaks.
+    /// Takes a rule that a local port breaks. Any byte of its board may have changed.
     pub(crate) fn port_breaks(&mut self, rule: Rule, slot: u8, spot: Spot) {
         self.find(spot, Broken::Port(rule, slot), None, None);
+        let boards = self.boards;
+        if let Some(answers) = self.answers.as_mut() {
+            for (index, board) in boards.iter().enumerate() {
+                if board.slot == slot {
+                    answers.forget(index, 0, board.entry.size);
+                }
+            }
+        }
     }
 
     /// Takes an access by the local port in a slot, and returns whether its answer is legal.
@@ -262,7 +307,7 @@ impl<'a> Judge<'a> {
                 len: access.len,
                 bytes: access.data,
             };
-            print_access(&line, &mut self.log)?;
+            print_access(&line, &mut self.pending)?;
         }
         let Some(board) = self.boards.iter().position(|board| board.slot == slot) else {
             return Ok(true);
@@ -273,6 +318,8 @@ impl<'a> Judge<'a> {
         let Err(wrong) = answers.take_local(board, access) else {
             return Ok(true);
         };
+        let end = access.offset.saturating_add(u32::from(access.len));
+        answers.forget(board, access.offset, end);
         let broken = Broken::Answer(wrong, Asked::Access(*access), Some(slot));
         self.find(spot, broken, None, None);
         Ok(false)

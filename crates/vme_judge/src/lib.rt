@@ -15,6 +15,7 @@ mod log;
 mod message;
 mod options;
 mod rejection;
+mod resume;
 mod run;
 mod shown;
 mod tail;

@@ -145,7 +145,7 @@ impl LogState {
             crate::counts::count(&mut judge.counts.skipped);
             return Ok(Taken::Legal);
         } else if !open(judge, datum, spot)? {
-            return Ok(Taken::Illegal);
+            return self.illegal(judge);
         }
         self.last = Some(*datum);
         let at_rest = quiet(datum, false);
@@ -156,9 +156,19 @@ impl LogState {
             spot,
             datum.is_acknowledged,
         )? {
-            return Ok(Taken::Illegal);
+            return self.illegal(judge);
         }
         Ok(Taken::Legal)
+    }
+
+    /// Takes an illegal datum: if the judgement goes on, the rest of its transfer is left out.
+    fn illegal(&mut self, judge: &mut Judge<'_>) -> Result<Taken, AllocError> {
+        self.last = None;
+        Ok(if judge.goes_on()? {
+            Taken::Legal
+        } else {
+            Taken::Illegal
+        })
     }
 
     /// Takes an access by a local port.
@@ -182,7 +192,7 @@ impl LogState {
             len: access.len,
             data: access.bytes,
         };
-        if judge.access(access.slot, &local, spot)? {
+        if judge.access(access.slot, &local, spot)? || judge.goes_on()? {
             Ok(Taken::Legal)
         } else {
             Ok(Taken::Illegal)

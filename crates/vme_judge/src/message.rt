@@ -41,7 +41,10 @@ pub(crate) fn write_message(
     if !help.is_empty() {
         write!(to, "    = help: {help}\n")?;
     }
-    Ok(())
+    write!(
+        to,
+        "    = help: `bendrika explain J{code}` explains the rule\n"
+    )
 }
 
 /// Appends what is wrong.

@@ -30,6 +30,8 @@ pub struct Options<'a> {
     pub ignored: u64,
     /// The greatest time from a strobe to its answer, if there is one.
     pub timeout: Option<u64>,
+    /// The greatest number of findings; 0 is no limit.
+    pub limit: u64,
     /// The bytes that may be written unseen.
     pub open: &'a [OpenBytes],
 }

@@ -1,5 +1,13 @@
 //! The transfer in which a sample lies.
-use vme_protocol::Sample;
+use vme_protocol::{Sample, Transfer};
+
+/// The bytes of a group that a cycle reads or writes.
+const GROUP: u32 = 4;
+
+/// The bytes of a unit that a block does not pass, and those of eight-byte data.
+const UNIT: u32 = 256;
+
+const WIDE_UNIT: u32 = 2048;
 
 /// A transfer whose AS* is low.
 #[derive(Clone, Copy, Debug, PartialEq, Eq)]
@@ -21,6 +29,18 @@ pub(crate) fn driver_of(drivers: u32) -> Option<u8> {
         return None;
     }
     u8::try_from(drivers.trailing_zeros() + 1).ok()
+}
+
+/// Returns how many bytes a transfer may write from its address on: of a block those up to the end of
+/// its unit.
+pub(crate) fn bytes_of(transfer: &Transfer) -> u32 {
+    if transfer.wide {
+        WIDE_UNIT - transfer.base % WIDE_UNIT
+    } else if transfer.block {
+        UNIT - transfer.base % UNIT
+    } else {
+        GROUP
+    }
 }
 
 impl OpenTransfer {

@@ -26,20 +26,44 @@ pub(crate) fn write_end(
 ) -> Result<Status, AllocError> {
     let mut text = String::new(alloc);
     let status = write_text(alloc, run, options, map, &mut text)?;
+    write_beside(options, text.as_str(), to)?;
+    Ok(status)
+}
+
+/// Appends lines, beside a bus log as comments.
+fn write_beside(options: &Options<'_>, text: &str, to: &mut String) -> Result<(), AllocError> {
     if !options.log {
-        to.push_str(text.as_str())?;
-        return Ok(status);
+        return to.push_str(text);
     }
-    for line in text.as_str().lines() {
+    for line in text.lines() {
         write!(to, "# {line}\n")?;
     }
-    Ok(status)
+    Ok(())
+}
+
+/// Appends a finding after which the judgement goes on, unless nothing is to be printed.
+///
+/// # Errors
+///
+/// An allocation failed.
+pub(crate) fn write_found(
+    alloc: Global,
+    options: &Options<'_>,
+    finding: &Finding,
+    to: &mut String,
+) -> Result<(), AllocError> {
+    if options.quiet {
+        return Ok(());
+    }
+    let mut text = String::new(alloc);
+    write_one(alloc, options, finding, &mut text)?;
+    write_beside(options, text.as_str(), to)
 }
 
 /// Whether nothing of a trace was judged.
 fn is_empty(run: &Run<'_>) -> bool {
     let counts = &run.judge.counts;
-    counts.data == 0 && counts.accesses == 0
+    counts.data == 0 && counts.accesses == 0 && run.judge.found == 0
 }
 
 /// Appends the text.
@@ -63,12 +87,13 @@ fn write_text(
         rejection.write(alloc, options.name, map, options.json, to)?;
         return Ok(Status::Rejected);
     }
-    let status = match &run.judge.finding {
-        Some(finding) => {
-            write_one(alloc, options, finding, to)?;
-            Status::Illegal
-        }
-        None => Status::Legal,
+    if let Some(finding) = &run.judge.finding {
+        write_one(alloc, options, finding, to)?;
+    }
+    let status = if run.judge.finding.is_some() || run.judge.found != 0 {
+        Status::Illegal
+    } else {
+        Status::Legal
     };
     write_rest(alloc, run, options, status, to)?;
     Ok(status)
