@@ -8,8 +8,8 @@
 
 #include "vme_alloc.h"
 
-/* Where each process maps the segment: far from what the loader, the heap and the stacks of Linux on x86-64 use. */
-#define SEGMENT_AT ((void *)0x600000000000)
+/* Where each process maps the segment: far from what the loader, the heap, the stacks and address sanitizer use on x86-64 Linux. */
+#define SEGMENT_AT ((void *)0x500000000000)
 
 static segment *mapped;
 
