@@ -13,5 +13,6 @@ mod modify;
 mod opening;
 mod request;
 mod results;
+mod settled;
 mod structs;
 mod transfer;
