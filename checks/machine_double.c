@@ -11,6 +11,7 @@ struct object {
     uint32_t taken;
     uint32_t size;
     uint8_t *bytes;
+    uint64_t steps;
 };
 
 struct machine {
@@ -50,8 +51,10 @@ static bool take(struct object *object)
     return !__atomic_exchange_n(&object->taken, 1, __ATOMIC_ACQUIRE);
 }
 
+/* Gives it back after a step. */
 static void give(struct object *object)
 {
+    object->steps++;
     __atomic_store_n(&object->taken, 0, __ATOMIC_RELEASE);
 }
 
@@ -155,12 +158,24 @@ static uint8_t are_all(vme_processor *all, size_t count)
     return VME_OK;
 }
 
-uint8_t vme_machine_close(vme_processor *all, size_t count)
+/* Writes the steps and the last bytes, as many as there are places for. */
+static void write_end(const struct machine *machine, uint64_t *steps, size_t steps_count, uint8_t *bytes, size_t bytes_count)
+{
+    for (size_t i = 0; i <= machine->count && i < steps_count; i++)
+        steps[i] = (i < machine->count ? &machine->boards[i] : &machine->bus)->steps;
+    for (size_t i = 0, at = 0; i < machine->count && at < bytes_count; at += machine->boards[i++].size) {
+        const size_t left = bytes_count - at, size = machine->boards[i].size;
+        memcpy(bytes + at, machine->boards[i].bytes, size < left ? size : left);
+    }
+}
+
+uint8_t vme_machine_close(vme_processor *all, size_t count, uint64_t *steps, size_t steps_count, uint8_t *bytes, size_t bytes_count)
 {
     uint8_t result = are_all(all, count);
     if (result != VME_OK)
         return result;
     struct machine *machine = of(&all[0])->machine;
+    write_end(machine, steps, steps_count, bytes, bytes_count);
     for (size_t i = 0; i < count; i++) {
         rattle_dealloc(of(&all[i]));
         all[i].full = 0;

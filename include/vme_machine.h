@@ -8,7 +8,7 @@
  * Waiting.   No call waits. A call that meets another thread inside the same object returns VME_BUSY and
  *            has changed nothing. vme_wait.h has calls that wait.
  * Memory.    A machine lies in memory that rattle_alloc gives: libvme_machine has one over malloc. A program
- *            that defines rattle_alloc, rattle_realloc and rattle_dealloc itself chooses the memory. Opening,
+ *            that defines rattle_alloc, rattle_realloc and rattle_dealloc of vme_alloc.h itself chooses the memory. Opening,
  *            closing, dropping and starting allocate and free; no call that makes an event does.
  * Results.   VME_OK or the reason of a failure. A call that fails has written nothing but what its
  *            comment says.
@@ -72,10 +72,14 @@ typedef struct vme_board {
 uint8_t vme_machine_open(const vme_board *boards, size_t count, uint8_t arbiter, vme_processor *out,
                          size_t out_count);
 
-/* Closes a machine with all its count processors, in any order, and leaves the structs empty. Fails with
- * VME_CLOSED if a struct is empty; with VME_BAD_CALL if count is 0, or if these are not all processors of
- * one machine, each once; and with VME_NO_MEMORY. After a failure the machine is as it was. */
-uint8_t vme_machine_close(vme_processor *all, size_t count);
+/* Closes a machine with all its count processors, in any order, and leaves the structs empty. Writes how
+ * many steps each board has made, in order of slots, and after them the arbiter, to steps: as many numbers
+ * as there are places, steps_count. Writes the last bytes of all boards, one after the other in order of
+ * slots, to bytes: as many as there are places, bytes_count. Fails with VME_CLOSED if a struct is empty;
+ * with VME_BAD_CALL if count is 0, or if these are not all processors of one machine, each once; and with
+ * VME_NO_MEMORY. After a failure the machine is as it was. */
+uint8_t vme_machine_close(vme_processor *all, size_t count, uint64_t *steps, size_t steps_count, uint8_t *bytes,
+                          size_t bytes_count);
 
 /* Gives up one processor and leaves its struct empty. Its machine can then not be closed; its memory is
  * freed with the last processor. Fails with VME_CLOSED. */

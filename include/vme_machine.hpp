@@ -13,6 +13,7 @@
 #include <cstring>
 #include <memory>
 #include <new>
+#include <numeric>
 #include <stdexcept>
 #include <string>
 #include <utility>
@@ -248,6 +249,13 @@ private:
     std::uint32_t addr;
 };
 
+// What a machine has come to: of each board its number of steps and its last bytes, and the number of steps of the arbiter.
+struct ending {
+    std::vector<std::uint64_t> steps;
+    std::vector<bytes> memories;
+    std::uint64_t arbiter_steps;
+};
+
 // The boards and the arbiter of a backplane. It outlives the threads of its processors.
 class machine {
 public:
@@ -257,8 +265,10 @@ public:
         std::vector<vme_processor> opened(boards.size() + 1);
         error::check(boards.empty() ? static_cast<std::uint8_t>(VME_BAD_CALL)
                                     : vme_machine_open(boards.data(), boards.size(), kind, opened.data(), boards.size()));
-        for (std::size_t i = 0; i < boards.size(); i++)
+        for (std::size_t i = 0; i < boards.size(); i++) {
             processors.emplace_back(opened[i], releases.get());
+            sizes.push_back(boards[i].entry.size);
+        }
     }
 
     // The number of its boards.
@@ -268,19 +278,30 @@ public:
     processor &operator[](std::size_t i) { return processors.at(i); }
 
     // Closes the machine, while no call of its processors runs. If a processor was moved away, it throws VME_CLOSED, and the machine is as it was.
-    void close()
+    ending close()
     {
         std::vector<vme_processor> all;
         all.reserve(processors.size() + 1);
+        std::vector<std::uint64_t> steps(processors.size() + 1);
+        bytes last(std::accumulate(sizes.begin(), sizes.end(), std::size_t{1}));
         for (processor &own : processors)
             all.push_back(own.release());
-        const std::uint8_t result = vme_machine_close(all.data(), all.size());
+        const std::uint8_t result = vme_machine_close(all.data(), all.size(), steps.data(), steps.size(), last.data(), last.size() - 1);
         for (std::size_t i = 0; result != VME_OK && i < all.size(); i++)
             processors[i] = processor(all[i], releases.get());
         error::check(result);
+        ending end{steps, {}, steps.back()};
+        end.steps.pop_back();
+        auto at = last.cbegin();
+        for (const std::uint32_t size : sizes) {
+            end.memories.emplace_back(at, at + size);
+            at += size;
+        }
+        return end;
     }
 
 private:
+    std::vector<std::uint32_t> sizes; // of the boards
     std::unique_ptr<vme_releases> releases; // before the processors, whose waiters point to it
     std::vector<processor> processors;
 };

@@ -359,7 +359,7 @@ static void discard(vme_processor *p)
         rattle_dealloc(to);
 }
 
-uint8_t vme_machine_close(vme_processor *all, size_t count)
+uint8_t vme_machine_close(vme_processor *all, size_t count, uint64_t *steps, size_t steps_count, uint8_t *bytes, size_t bytes_count)
 {
     vme_processor opened[MOST_BOARDS];
     for (size_t i = 0; i < count; i++)
@@ -370,7 +370,7 @@ uint8_t vme_machine_close(vme_processor *all, size_t count)
     memset(opened, 0, sizeof opened);
     for (size_t i = 0; i < count; i++)
         opened[i] = of(&all[i])->own;
-    const uint8_t result = untraced_vme_machine_close(opened, count);
+    const uint8_t result = untraced_vme_machine_close(opened, count, steps, steps_count, bytes, bytes_count);
     for (size_t i = 0; i < count; i++) {
         if (result == VME_OK)
             discard(&all[i]);

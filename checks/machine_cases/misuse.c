@@ -7,9 +7,15 @@ static vme_board board_of(uint32_t i)
     return board;
 }
 
+/* Closes with too few places, which get what fits, and writes nothing if it fails. */
 static uint8_t close_all(vme_processor *all, size_t count)
 {
-    return vme_machine_close(all, count);
+    uint64_t steps[2] = { 77, 77 };
+    uint8_t bytes[2] = { 7, 7 };
+    const uint8_t result = vme_machine_close(all, count, steps, 1, bytes, 1);
+    want("a place that close does not have", (uint8_t)(steps[1] == 77 && bytes[1] == 7), 1);
+    want("a place that close has", (uint8_t)((steps[0] == 77 && bytes[0] == 7) == (result != VME_OK)), 1);
+    return result;
 }
 
 static void open_two(vme_processor *out)

@@ -71,9 +71,11 @@ static long refuse_open(vme_processor *out)
 static long refuse_close(vme_processor *all)
 {
     vme_datum datum = { 0, { 0 } };
+    uint64_t steps = 77;
+    uint8_t byte = 7;
     for (long n = 0;; n++) {
         left = n;
-        const uint8_t result = vme_machine_close(all, COUNT);
+        const uint8_t result = vme_machine_close(all, COUNT, &steps, 1, &byte, 1);
         const bool is_met = left < 0;
         left = -1;
         if (!is_met) {
@@ -81,6 +83,7 @@ static long refuse_close(vme_processor *all)
             return n;
         }
         want("close without memory", result, VME_NO_MEMORY);
+        want("what it wrote", (uint8_t)(steps == 77 && byte == 7), 1);
         for (int i = 0; i < COUNT; i++)
             want("a read afterwards", vme_processor_try_local_read(&all[i], 0, 4, &datum), VME_OK);
     }

@@ -1,5 +1,5 @@
 /* Four threads make many calls: reads, writes and modifies by their local ports, and transfers to each other's boards. Each adds to a
-   counter of every board, and close gives the sums and the number of each processor's steps.
+   counter of every board, and close gives the sums and the number of each board's steps.
 
    usage: stress CALLS */
 #include "cases.h"
@@ -50,25 +50,31 @@ static void *work(void *index)
 
 int main(int argc, char **argv)
 {
-    uint64_t made = 0;
+    uint64_t made = 0, tenures = 0;
     calls = argc > 1 ? strtoul(argv[1], NULL, 10) : calls;
     open_crate(THREADS);
     run_each(THREADS, work);
+    close_crate(THREADS);
     for (size_t b = 0; b < THREADS; b++) {
-        uint64_t total = 0;
-        vme_datum found = { 0, { 0 } };
-        want("read", vme_processor_local_read(&cpus[b].p, &waiter, 0, 4, &found), VME_OK);
-        steps_of[b][b]++;
+        uint64_t total = 0, steps = 0;
+        vme_datum found = { 4, { 0 } };
+        memcpy(found.bytes, last_bytes + b * BOARD_SIZE, 4);
         for (size_t i = 0; i < THREADS; i++) {
             total += added[i][b];
-            made += steps_of[i][b];
+            steps += steps_of[i][b];
+            tenures += i == b ? 0 : steps_of[i][b];
         }
-        if (vme_word_of(&found) != (uint32_t)total) {
-            fprintf(stderr, "board %zu: %u in place of %u\n", b, vme_word_of(&found), (uint32_t)total);
+        if (vme_word_of(&found) != (uint32_t)total || last_steps[b] != steps) {
+            fprintf(stderr, "board %zu: %u in place of %u, after %lu steps in place of %lu\n", b, vme_word_of(&found), (uint32_t)total,
+                    (unsigned long)last_steps[b], (unsigned long)steps);
             return 1;
         }
+        made += steps;
     }
-    close_crate(THREADS);
-    printf("%lu calls in %d threads: each sum is right\n", (unsigned long)made, THREADS);
+    if (last_steps[THREADS] < 2 * tenures) {
+        fprintf(stderr, "the arbiter: %lu steps for %lu tenures\n", (unsigned long)last_steps[THREADS], (unsigned long)tenures);
+        return 1;
+    }
+    printf("%lu calls in %d threads: each sum and each number of steps is right\n", (unsigned long)made, THREADS);
     return 0;
 }

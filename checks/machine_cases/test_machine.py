@@ -57,6 +57,17 @@ class MachineTest(unittest.TestCase):
         self.has_result(MachineResult.CLOSED, own.lock, AM, address(0, 0))
         self.has_result(MachineResult.CLOSED, machine.close)
 
+    def test_ending(self) -> None:
+        with Machine(boards(2)) as machine:
+            first, second = machine.processors
+            first.local_write(4, b"abcd")
+            second.write(AM, address(0, 6), b"xy")
+            second.local_read(0, 4)
+        end = machine.ending
+        self.assertEqual(end.steps, [2, 1])
+        self.assertEqual(end.memories, [b"\0\0\0\0abxy" + bytes(56), bytes(64)])
+        self.assertEqual(end.arbiter_steps, 2)
+
     def test_dropped_after_an_exception(self) -> None:
         with self.assertRaises(KeyError):
             with Machine(boards(1)) as machine:

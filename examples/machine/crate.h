@@ -69,6 +69,10 @@ static inline void run_each(size_t count, void *(*program)(void *))
         pthread_join(threads[i], NULL);
 }
 
+/* What close gives: the steps of each board and of the arbiter, and the bytes of all boards. */
+static uint64_t last_steps[MOST_BOARDS + 1];
+static uint8_t last_bytes[MOST_BOARDS * BOARD_SIZE];
+
 /* Closes the machine. */
 static inline void close_crate(size_t count)
 {
@@ -77,7 +81,7 @@ static inline void close_crate(size_t count)
         all[i] = cpus[i].p;
         memset(&cpus[i].p, 0, sizeof cpus[i].p);
     }
-    want("close", vme_machine_close(all, count), VME_OK);
+    want("close", vme_machine_close(all, count, last_steps, count + 1, last_bytes, count * BOARD_SIZE), VME_OK);
 }
 
 /* Reads a word, or a byte, at an address. */

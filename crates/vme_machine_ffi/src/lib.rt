@@ -11,5 +11,6 @@ mod handle;
 mod opening;
 mod request;
 mod results;
+mod settled;
 mod structs;
 mod transfer;

@@ -21,7 +21,7 @@ from .board import Board
 from .decoder import AddressMap
 from .errors import BusError, NoBoard, Refused, VmeError
 from .library import VERSION, version
-from .machine import Machine, MachineBoard, Mailbox, Processor
+from .machine import Ending, Machine, MachineBoard, Mailbox, Processor
 from .machine_library import MOST_READ, MachineResult
 from .request import Request, answered
 from .structures import (
@@ -51,6 +51,7 @@ __all__ = [
     "ArbiterReply",
     "Board",
     "BusError",
+    "Ending",
     "Entry",
     "Function",
     "Kind",

@@ -6,8 +6,9 @@ import threading
 import time
 from collections.abc import Callable, Iterator, Sequence
 from contextlib import ExitStack, contextmanager
-from ctypes import byref, c_size_t, c_uint8
+from ctypes import byref, c_size_t, c_uint8, c_uint64
 from dataclasses import dataclass, field
+from itertools import accumulate
 from types import TracebackType
 
 from .errors import VmeError
@@ -43,6 +44,16 @@ class Mailbox:
     am: int
     addr: int
     slots: int
+
+
+@dataclass(frozen=True)
+class Ending:
+    """What a machine has come to: the number of steps and the last bytes of each board, in order of slots, and the number of steps of the
+    arbiter."""
+
+    steps: list[int]
+    memories: list[bytes]
+    arbiter_steps: int
 
 
 @dataclass
@@ -272,7 +283,10 @@ class Machine:
             thread.start()
             thread.join()
 
-    The body of the `with` ends after its threads. The machine is then closed; after an exception its processors are dropped."""
+    The body of the `with` ends after its threads. The machine is then closed, and `ending` is what it has come to; after an exception its
+    processors are dropped."""
+
+    ending: Ending
 
     def __init__(self, boards: Sequence[MachineBoard], kind: ArbiterKind = ArbiterKind.PRIORITY, *, limit: int = 0) -> None:
         """Opens a machine of zeros. `limit` is the number of sleeps of a millisecond in which nothing changes, after which a call gives
@@ -281,20 +295,24 @@ class Machine:
         opened = (ProcessorStruct * max(1, count))()
         structs = (BoardStruct * max(1, count))(*(it._struct() for it in boards))
         require_machine(machine_lib().machine_open(structs, count, kind, opened, count))
-        self._line = (ProcessorStruct * (_PADDING * count))()
+        self._line, self._sizes = (ProcessorStruct * (_PADDING * count))(), [it.entry.size for it in boards]
         for i in range(count):
             self._line[_PADDING * i] = opened[i]
         releases = _Releases()
         self.processors = [Processor(self._line[_PADDING * i], releases, limit) for i in range(count)]
 
-    def close(self) -> None:
-        """Closes the machine, once no call runs. Raises `VmeError` with CLOSED if it is closed."""
+    def close(self) -> Ending:
+        """Closes the machine, once no call runs, and returns what it has come to. Raises `VmeError` with CLOSED if it is closed."""
         with self._all_alone():
-            count = len(self.processors)
+            count, size = len(self.processors), sum(self._sizes)
             together = (ProcessorStruct * count)(*(self._line[_PADDING * i] for i in range(count)))
-            require_machine(machine_lib().machine_close(together, count))
+            steps, last = (c_uint64 * (count + 1))(), (c_uint8 * size)()
+            require_machine(machine_lib().machine_close(together, count, steps, count + 1, last, size))
             for own in self._line:
                 own.full, own.hidden = 0, None
+        ends = list(accumulate(self._sizes, initial=0))
+        self.ending = Ending(list(steps[:count]), [bytes(last[a:b]) for a, b in zip(ends, ends[1:])], steps[count])
+        return self.ending
 
     def drop(self) -> None:
         """Gives all processors up, once no call runs."""

@@ -4,7 +4,7 @@ from __future__ import annotations
 
 import ctypes
 import os
-from ctypes import POINTER, c_size_t, c_uint8, c_uint16, c_uint32, c_void_p
+from ctypes import POINTER, c_size_t, c_uint8, c_uint16, c_uint32, c_uint64, c_void_p
 from enum import IntEnum
 from functools import lru_cache
 from pathlib import Path
@@ -50,7 +50,7 @@ _OFFSET, _BYTE_COUNT = Number("at", c_uint32), Number("n", c_uint8)
 # By name, without vme_: the type of the result, and those of the arguments.
 MACHINE_SIGNATURES: dict[str, tuple] = {
     "machine_open": (c_uint8, POINTER(BoardStruct), c_size_t, Number("kind", c_uint8), _OWN, c_size_t),
-    "machine_close": (c_uint8, _OWN, c_size_t),
+    "machine_close": (c_uint8, _OWN, c_size_t, POINTER(c_uint64), c_size_t, POINTER(c_uint8), c_size_t),
     "processor_drop": (c_uint8, _OWN),
     "processor_try_local_read": (c_uint8, _OWN, _OFFSET, _BYTE_COUNT, POINTER(Datum)),
     "processor_try_local_write": (c_uint8, _OWN, _OFFSET, POINTER(Datum)),

@@ -1,4 +1,5 @@
-use Rattle.std.proofs.Common.{arith, ◌≡◌, ◌∙◌, ◌≤◌, List, All, ap, refl, sym, subst}
+use Rattle.std.proofs.Common.{rules, arith, ◌≡◌, ◌∙◌, ◌≤◌, List, All, ap, refl, sym, subst}
+use Rattle.std.proofs.lemmas.Grind.{common_steps}
 use Rattle.vme_processor.specs.declared.processor.Processor.{Processor}
 use Rattle.vme_processor.specs.Processors.{IsOf}
 use Rattle.vme_machine_ffi.specs.Structs.{processors_in, full, values_of}
@@ -23,4 +24,6 @@ returns-in-Ok-close-clause-settled c = λ machine are zero.
       has = sym whole ∙ ap full (sym c.unbox.ensures);
       homes = c.close.new.homes.items;
       settles = c.in-Ok-close.ensures.settled machine (subst (All (IsOf machine)) (sym (c.unbox.ensures ∙ same)) are.are);
+      counted = first_of (search rules, grind (arith, common_steps));
+      copied = first_of (search rules, grind (arith, common_steps));
     }
