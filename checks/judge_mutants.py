@@ -372,8 +372,8 @@ LEGAL = [early_address_strobe, pipelined, strobes_apart, strobes_rise_apart, lat
 
 
 def errors(text: str, seed: int, places: int, kinds: int = len(ERRORS)) -> Iterator[tuple[str, str, set[str], bool]]:
-    """Errors of a waveform, of some kinds or of all: the name, the dump, the codes that may name it, and whether the protocol shows
-    it."""
+    """Errors of a waveform, of some kinds or of all: the name, the dump, the codes that may name it, and whether the protocol
+    shows it."""
     wave, rng = Wave(text), random.Random(seed)
     handshakes = wave.handshakes()
     for mutant in ERRORS if kinds == len(ERRORS) else rng.sample(ERRORS, kinds):
@@ -384,8 +384,8 @@ def errors(text: str, seed: int, places: int, kinds: int = len(ERRORS)) -> Itera
 
 
 def twice(text: str, seed: int) -> Iterator[tuple[str, str, set[str]]]:
-    """Waveforms with the same error in two transfers, of which neither is the last: the name, the dump, and the codes that may name
-    the error."""
+    """Waveforms with the same error in two transfers, of which neither is the last: the name, the dump, and the codes that may
+    name the error."""
     wave, rng = Wave(text), random.Random(seed)
     alone = [it for it in wave.handshakes() if it.begins and it.ends]
     for mutant in ERRORS if len(alone) > 2 else ():

@@ -59,8 +59,8 @@ class RandomFiles:
         ])
 
     def file(self, most: int | None = None) -> tuple[str, list[int]]:
-        """A file of two or three boards, on one of which may lie a mailbox, and their slots. A script has at most `most` lines, or
-        so few that the file has few outcomes."""
+        """A file of two or three boards, on one of which may lie a mailbox, and their slots. A script has at most `most` lines,
+        or so few that the file has few outcomes."""
         draws = self.draws
         count, has_box = 2 + draws.below(2), not draws.below(3)
         slots = sorted({1 + draws.below(21) for _ in range(8)})[:count]
