@@ -16,7 +16,7 @@ _bendrika() {
     split) COMPREPLY=($(compgen -W "--local-width --wide --slot --help" -- "$word") $(compgen -f -- "$word")) ;;
     trace) COMPREPLY=($(compgen -W "--polls --gtkw --help" -- "$word") $(compgen -f -- "$word")) ;;
     page) COMPREPLY=($(compgen -W "--help" -- "$word") $(compgen -f -- "$word")) ;;
-    judge) COMPREPLY=($(compgen -W "--protocol --strict --lines --zero --open --others --ignore-am --timeout --limit --log --json --quiet --help" -- "$word") $(compgen -f -- "$word")) ;;
+    judge) COMPREPLY=($(compgen -W "--history --states --protocol --strict --lines --zero --open --others --ignore-am --timeout --limit --log --json --quiet --help" -- "$word") $(compgen -f -- "$word")) ;;
     lines) COMPREPLY=($(compgen -W "--help" -- "$word")) ;;
     esac
 }

@@ -1,5 +1,6 @@
 //! `bendrika judge`.
 use crate::fault::Fault;
+use crate::history::history_judged;
 use crate::input::{STANDARD_INPUT, bytes_of, file_at, input_of, name_of, refuse, report};
 use crate::status::Status;
 use clap::ArgMatches;
@@ -35,6 +36,9 @@ pub(crate) fn judged(rt: &HostRuntime, words: &ArgMatches<'_>) -> Result<Status,
     let Some(bytes) = bytes_of(rt, name_of(file), input)? else {
         return Ok(Status::Fault);
     };
+    if words.get_flag("history") {
+        return history_judged(rt, words, bytes.as_slice());
+    }
     let boards = match boards_of(rt.alloc(), bytes.as_slice()) {
         Ok(boards) => boards,
         Err(ConfigFault::OutOfMemory) => return Err(Fault::Memory),

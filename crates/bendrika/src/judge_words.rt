@@ -2,7 +2,7 @@
 use crate::forms::{JSON, Kind, Word};
 
 /// The words of `bendrika judge`.
-pub(crate) static JUDGE: [Word; 14] = [
+pub(crate) static JUDGE: [Word; 15] = [
     Word {
         name: "FILE",
         value: "FILE",
@@ -14,6 +14,18 @@ pub(crate) static JUDGE: [Word; 14] = [
         value: "TRACE",
         kind: Kind::Required,
         help: "A value change dump (VCD) or a bus log; - is standard input",
+    },
+    Word {
+        name: "history",
+        value: "",
+        kind: Kind::Flag,
+        help: "TRACE is a log of processors, lines SLOT LINE -> REPLY: say whether one order explains it",
+    },
+    Word {
+        name: "states",
+        value: "N",
+        kind: Kind::StateCount("1000000"),
+        help: "With --history, explore at most N states",
     },
     Word {
         name: "protocol",

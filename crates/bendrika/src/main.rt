@@ -16,6 +16,7 @@ mod explain;
 mod fault;
 mod forms;
 mod gathered;
+mod history;
 mod input;
 mod judge;
 mod judge_words;

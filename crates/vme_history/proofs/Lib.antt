@@ -1,0 +1,6 @@
+pub mod Orders
+pub mod Memories
+pub mod Mailboxes
+pub mod Replies
+pub mod Logs
+pub mod Verdicts

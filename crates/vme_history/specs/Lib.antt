@@ -1,0 +1,4 @@
+pub mod Logs
+pub mod Lines
+pub mod Histories
+pub mod Reading
