@@ -165,12 +165,14 @@ fn list_file(
     };
     let fitting = states_of_file(rt.alloc(), search.file, bytes)?;
     let limit = search.asked.limit;
-    let search = &Search {
+    let asked = &search.asked.within(limit.min(fitting));
+    let within = Search {
         name: search.name,
-        asked: &search.asked.within(limit.min(fitting)),
+        asked,
         print: search.print,
         file: search.file,
     };
+    let search = &within;
     let end = if words.get_flag("progress") {
         list_by_stages(rt, search)
     } else {
