@@ -2,7 +2,7 @@
 use crate::forms::{JSON, Kind, Word};
 
 /// The words of `bendrika judge`.
-pub(crate) static JUDGE: [Word; 15] = [
+pub(crate) static JUDGE: [Word; 16] = [
     Word {
         name: "FILE",
         value: "FILE",
