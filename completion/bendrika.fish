@@ -46,7 +46,7 @@ complete -c bendrika -n '__fish_seen_subcommand_from trace' -l gtkw -d 'Print a 
 complete -c bendrika -n '__fish_seen_subcommand_from trace' -s h -l help -d 'Print help'
 complete -c bendrika -n '__fish_seen_subcommand_from page' -s h -l help -d 'Print help'
 complete -c bendrika -n '__fish_seen_subcommand_from judge' -l history -d 'TRACE is a log of processors, lines SLOT LINE -> REPLY: say whether one order explains it'
-complete -c bendrika -n '__fish_seen_subcommand_from judge' -l limit -x -d 'With --history, explore at most N states [default: 1000000]'
+complete -c bendrika -n '__fish_seen_subcommand_from judge' -l states -x -d 'With --history, explore at most N states [default: 1000000]'
 complete -c bendrika -n '__fish_seen_subcommand_from judge' -l protocol -d 'Judge the order of samples alone, and not the answers of boards'
 complete -c bendrika -n '__fish_seen_subcommand_from judge' -l strict -d 'Judge the rules of the model too: no pipelined address, data still under the answer'
 complete -c bendrika -n '__fish_seen_subcommand_from judge' -l lines -x -d 'A file that says which variables of the dump are the lines'
