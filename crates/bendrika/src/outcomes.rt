@@ -139,15 +139,15 @@ pub(crate) fn listed(rt: &HostRuntime, words: &ArgMatches<'_>) -> Result<Status,
         conditions: stated.conditions.as_slice(),
     };
     match read_file(rt, path)? {
-        Some(file) => {
-            let search = Search {
-                name: name_of(path),
-                asked: &asked,
-                print,
-                file: file.as_slice(),
-            };
-            list_file(rt, &search, words, stated.texts.as_slice())
-        }
+        Some(file) => list_file(
+            rt,
+            name_of(path),
+            &asked,
+            print,
+            words,
+            stated.texts.as_slice(),
+            file.as_slice(),
+        ),
         None => Ok(Status::Fault),
     }
 }
@@ -155,44 +155,46 @@ pub(crate) fn listed(rt: &HostRuntime, words: &ArgMatches<'_>) -> Result<Status,
 /// Lists the outcomes of the bytes of a file.
 fn list_file(
     rt: &HostRuntime,
-    search: &Search<'_>,
+    name: &str,
+    asked: &Asked<'_>,
+    print: Print,
     words: &ArgMatches<'_>,
     texts: &[&str],
+    file: &[u8],
 ) -> Result<Status, Fault> {
     let bytes = match words.get_one::<usize>("memory") {
         Some(bytes) => bytes as u64,
         None => free_bytes(rt)?,
     };
-    let fitting = states_of_file(rt.alloc(), search.file, bytes)?;
-    let limit = search.asked.limit;
-    let asked = &search.asked.within(limit.min(fitting));
-    let within = Search {
-        name: search.name,
+    let fitting = states_of_file(rt.alloc(), file, bytes)?;
+    let limit = asked.limit;
+    let asked = &asked.within(limit.min(fitting));
+    let search = Search {
+        name,
         asked,
-        print: search.print,
-        file: search.file,
+        print,
+        file,
     };
-    let search = &within;
     let end = if words.get_flag("progress") {
-        list_by_stages(rt, search)
+        list_by_stages(rt, &search)
     } else {
-        list_within(rt, search, search.asked.limit)
+        list_within(rt, &search, asked.limit)
     };
     match end {
         Ok(status) => Ok(status),
-        Err(OutcomesFault::Program(fault)) => end_of(rt, search, fault),
+        Err(OutcomesFault::Program(fault)) => end_of(rt, &search, fault),
         Err(OutcomesFault::Condition(i)) => {
-            wrong_condition(rt, search, texts.get(i).copied().unwrap_or(""))
+            wrong_condition(rt, &search, texts.get(i).copied().unwrap_or(""))
         }
         Err(OutcomesFault::Line(i)) => {
             let places = words.get_str("show").or(words.get_str("lines"));
             wrong_line(
                 rt,
-                search,
+                &search,
                 places.unwrap_or("").split(',').nth(i).unwrap_or(""),
             )
         }
-        Err(OutcomesFault::Limit) => end_at_limit(rt, search, (fitting < limit).then_some(bytes)),
+        Err(OutcomesFault::Limit) => end_at_limit(rt, &search, (fitting < limit).then_some(bytes)),
     }
 }
 
@@ -227,7 +229,8 @@ fn end_at_limit(
     search: &Search<'_>,
     bytes: Option<u64>,
 ) -> Result<Status, Fault> {
-    let limit = search.asked.limit;
+    let asked = search.asked;
+    let limit = asked.limit;
     let used = most_bytes(rt)?;
     let line = match Config::read(rt.alloc(), search.file) {
         Ok(config) => frequent_line(rt.alloc(), &config, limit),
