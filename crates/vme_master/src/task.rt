@@ -92,8 +92,32 @@ impl<'a> Task<'a> {
             read_len t.request ≤ inline_capacity }
         ensures { result ≡ bus_task map.now slot level (transfer_of request) }
     {
+        Task::start_owned_into(map, slot, level, request, BlockBuffer::new())
+    }
+
+    /// Returns the task of a transfer over the bus, which `slot` requests on `level`. The task owns
+    /// the request and reads into `buffer`, whose capacity must be at least the number of bytes that
+    /// the request reads. The map selects the board by the first byte: IEEE 1014-1987, 2.3.5
+    /// (addressing).
+    ///
+    /// # Errors
+    ///
+    /// The first refusal of the request.
+    #[inline(always)]
+    pub fn start_owned_into(
+        map: &AddressMap,
+        slot: u16,
+        level: u8,
+        request: Request,
+        buffer: BlockBuffer,
+    ) -> Result<Task<'a>, CycleFault>
+        requires empty { buffer.items ≡ [] }
+        requires enough { (t : LawfulRequest) → transfer_of request ≡ Ok t →
+            read_len t.request ≤ buffer.capacity }
+        ensures { result ≡ bus_task map.now slot level (transfer_of request) }
+    {
         let transfer = Transfer::of_own(request)?;
-        Ok(Task::bus(map, slot, level, transfer, BlockBuffer::new()))
+        Ok(Task::bus(map, slot, level, transfer, buffer))
     }
 
     /// Returns the task of a command to the local port of the board with index `board`.
