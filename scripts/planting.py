@@ -46,7 +46,7 @@ def changed(texts: dict[Path, str]) -> Iterator[None]:
 def build(folder: Path, program: str) -> Path:
     """Builds a program of a copy without proofs. The library for C has no such build, so it is proved."""
     if program == "libvme.a":
-        subprocess.run(["rt", "lib"], cwd=folder / "crates/vme_ffi", check=True)
+        subprocess.run([folder / "scripts/archive", "vme_ffi"], check=True)
         return folder / "crates/vme_ffi/out/libvme_ffi.a"
     built = folder / program
     built.unlink(missing_ok=True)
