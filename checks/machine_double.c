@@ -140,6 +140,14 @@ uint8_t vme_machine_open(const vme_board *boards, size_t count, uint8_t arbiter,
     return VME_OK;
 }
 
+/* It reads no file. */
+uint8_t vme_machine_load(const uint8_t *file, size_t size, vme_board *boards, size_t boards_count, vme_processor *out, size_t out_count,
+                         vme_loaded *found)
+{
+    (void)file, (void)size, (void)boards, (void)boards_count, (void)out, (void)out_count, (void)found;
+    return VME_BAD_STATE;
+}
+
 /* Whether these are all processors of one machine, each once. */
 static uint8_t are_all(vme_processor *all, size_t count)
 {
@@ -258,8 +266,6 @@ static uint8_t start(vme_processor *p, const vme_request *wanted, const uint8_t 
     const uint8_t result = vme_request_check(wanted, &first);
     if (result != VME_OK)
         return result;
-    if (wanted->kind == VME_BLOCK_READ && (size_t)wanted->count * wanted->n > VME_MOST_READ)
-        return VME_BAD_CALL;
     own->request = *wanted;
     own->datum = 0;
     own->have = 0;

@@ -9,15 +9,16 @@
  *            has changed nothing. vme_wait.h has calls that wait.
  * Memory.    A machine lies in memory that rattle_alloc gives: libvme_machine has one over malloc. A program
  *            that defines rattle_alloc, rattle_realloc and rattle_dealloc of vme_alloc.h itself chooses the memory. Opening,
- *            closing, dropping and starting allocate and free; no call that makes an event does.
+ *            loading, closing and dropping allocate and free. A start allocates only for a block that reads or writes more
+ *            than 40 bytes, and frees that of the transfer before. No call that makes an event allocates or frees.
  * Results.   VME_OK or the reason of a failure. A call that fails has written nothing but what its
  *            comment says.
  *
  * What the caller owes. Nothing can test it, unless the text of a call says so:
  *
  * 1. A vme_processor starts as zeros, and the library alone changes it. It may be moved: copied, and the
- *    old one set to zeros. It is never used as two. vme_machine_open gets empty ones; what a full one has
- *    is lost.
+ *    old one set to zeros. It is never used as two. vme_machine_open and vme_machine_load get empty ones; what a
+ *    full one has is lost.
  * 2. At most one call at a time uses a processor. Another thread may use it later, if a lock, the start or
  *    the join of a thread, or a sequentially consistent atomic orders the two calls.
  * 3. vme_machine_close gets all processors of one machine, each once, while no call runs.
@@ -39,6 +40,16 @@ extern "C" {
 /* ---- Results, besides those of vme.h ---- */
 
 enum {
+    VME_C5 = 0x15,          /* Of a configuration file: a size that no board has. */
+    VME_C6 = 0x16,          /* The file is not TOML. */
+    VME_C7 = 0x17,          /* A key is unknown or absent, or its value has another kind. */
+    VME_C8 = 0x18,          /* A slot is not from 1 to 21, or not above the one before. */
+    VME_C9 = 0x19,          /* A level is above 3. */
+    VME_C10 = 0x1a,         /* A word or a width does not exist. */
+    VME_C11 = 0x1b,         /* There is no board. */
+    VME_C12 = 0x1c,         /* Tries, rounds or the schedule are out of range. */
+    VME_C13 = 0x1d,         /* A mailbox is not lawful. */
+    VME_C14 = 0x1e,         /* A line of a script is refused. */
     VME_NO_MEMORY = 0x25,   /* An allocation failed. */
     VME_NOT_GRANTED = 0x31, /* Another slot has the bus: the transfer has not begun. */
     VME_BUS_DENIED = 0x32,  /* The arbiter denied a command of the transfer. For no processor of a machine it does. */
@@ -53,7 +64,7 @@ enum {
 /* A processor of a machine, or nothing. {0} is an empty one. Keep those of two threads on two cache
  * lines: side by side they cost each other a part of their speed. */
 typedef struct vme_processor {
-    uint8_t full; /* 1 if it is open, 0 if it is empty */
+    size_t full; /* 1 if it is open, 0 if it is empty */
     void *hidden;
 } vme_processor;
 
@@ -71,6 +82,24 @@ typedef struct vme_board {
  * above 3, or if a size is not a multiple of 4 from 4 to 1,048,576; and with VME_NO_MEMORY. */
 uint8_t vme_machine_open(const vme_board *boards, size_t count, uint8_t arbiter, vme_processor *out,
                          size_t out_count);
+
+/* What a configuration file says of its machine, or where it is refused. */
+typedef struct vme_loaded {
+    size_t count;    /* of its boards */
+    uint16_t slot;   /* of the board whose script is refused, with VME_C14 */
+    uint16_t line;   /* of that script, from 1 */
+    uint8_t arbiter; /* VME_PRIORITY or VME_ROTATING */
+    uint8_t script;  /* why the line is refused: 1 to 9 for S1 to S9 */
+} vme_loaded;
+
+/* Opens a machine with the boards and the arbiter of a configuration file for vme, given as its size bytes. The
+ * whole file is checked, but no script runs, and mailboxes are zeros as all bytes are. Writes the processors to
+ * out, in order of slots; their boards to boards, as many as there are places, boards_count, which may be 0;
+ * and count and arbiter to found, whose other fields are 0. Fails with VME_C1 to VME_C14, the first refusal of
+ * the file, and with VME_C14 writes slot, line and script to found, whose other fields are 0; with VME_BAD_CALL
+ * if out_count is less than the number of boards; and with VME_NO_MEMORY. */
+uint8_t vme_machine_load(const uint8_t *file, size_t size, vme_board *boards, size_t boards_count, vme_processor *out,
+                         size_t out_count, vme_loaded *found);
 
 /* Closes a machine with all its count processors, in any order, and leaves the structs empty. Writes how
  * many steps each board has made, in order of slots, and after them the arbiter, to steps: as many numbers
@@ -99,8 +128,8 @@ uint8_t vme_processor_try_local_write(vme_processor *p, uint32_t at, const vme_d
 uint8_t vme_processor_try_local_modify(vme_processor *p, uint32_t at, uint8_t n, const vme_modify *f,
                                        vme_datum *out);
 
-/* The most bytes that one transfer reads. */
-enum { VME_MOST_READ = 40 };
+/* The most bytes that one transfer reads: 256 data of 8. A block of data of up to 4 bytes reads 256 at most. */
+enum { VME_MOST_READ = 2048 };
 
 /* ---- A transfer over the bus: start it, then step it until it ends ----
  *
@@ -109,13 +138,12 @@ enum { VME_MOST_READ = 40 };
  * of the machine, its own one too. */
 
 /* Starts a read: of a block if the kind is VME_BLOCK_READ, and otherwise of one datum. Fails with the
- * request's first refusal; with VME_BAD_CALL if a transfer of this processor has not ended, or if more than
- * VME_MOST_READ bytes are read; and with VME_CLOSED. */
+ * request's first refusal; with VME_BAD_CALL if a transfer of this processor has not ended; with VME_NO_MEMORY
+ * if a block of more than 40 bytes gets no memory; and with VME_CLOSED. */
 uint8_t vme_processor_start_read(vme_processor *p, const vme_request *request);
 
 /* Starts a write of size bytes, which are copied: as a block of data of request->n bytes if the kind is
- * VME_BLOCK_WRITE, and otherwise as one datum. Ignores request->count. Fails as a read does, and with
- * VME_NO_MEMORY. */
+ * VME_BLOCK_WRITE, and otherwise as one datum. Ignores request->count. Fails as a read does. */
 uint8_t vme_processor_start_write(vme_processor *p, const vme_request *request, const uint8_t *bytes,
                                   size_t size);
 
@@ -148,6 +176,7 @@ uint8_t vme_processor_bytes(vme_processor *p, uint8_t *out, size_t size, size_t 
 #endif
 VME_LAYOUT(vme_processor, 2 * sizeof(void *));
 VME_LAYOUT(vme_board, 20);
+VME_LAYOUT(vme_loaded, sizeof(size_t) + 8);
 #undef VME_LAYOUT
 
 #endif

@@ -1,6 +1,7 @@
 // vme_machine.hpp: vme_machine.h and vme_wait.h as C++11 classes that own what they open. The headers in C are the manual.
 //
-// vme::machine    opens a machine, and has its processors until they are taken; its threads share its releases.
+// vme::machine    opens a machine, by boards or by a configuration file, and has its processors until they are taken; its threads share its
+//                 releases.
 // vme::processor  one processor with how it waits. It is moved, not copied, and used by one thread at a time. What a call can not
 //                 do is a vme::error with the result, but for try_lock, which returns whether it has the lock.
 //
@@ -13,7 +14,6 @@
 #include <cstring>
 #include <memory>
 #include <new>
-#include <numeric>
 #include <stdexcept>
 #include <string>
 #include <utility>
@@ -30,6 +30,10 @@ public:
 
     const std::uint8_t result;
 
+protected:
+    error(std::uint8_t result, const std::string &what) : std::runtime_error(what), result(result) {}
+
+public:
     // Throws the error of a result that is not VME_OK.
     static void check(std::uint8_t result)
     {
@@ -59,6 +63,19 @@ private:
 };
 
 using bytes = std::vector<std::uint8_t>;
+
+// A line of a script in a configuration file is refused, by S1 to S9.
+class script_error : public error {
+public:
+    explicit script_error(const vme_loaded &found)
+        : error(VME_C14, "C14 slot " + std::to_string(found.slot) + " line " + std::to_string(found.line) + " S" + std::to_string(found.script)),
+          slot(found.slot), line(found.line), script(found.script)
+    {
+    }
+
+    const std::uint16_t slot, line;
+    const std::uint8_t script;
+};
 
 // The bytes as a datum. Throws std::length_error if they are more than eight.
 inline vme_datum datum_of(const bytes &from)
@@ -168,7 +185,7 @@ public:
         return bytes_of(out);
     }
 
-    // Count data of n bytes each, VME_MOST_READ bytes at most.
+    // Count data of n bytes each.
     bytes block_read(std::uint8_t am, std::uint32_t addr, std::uint8_t n, std::uint16_t count)
     {
         bytes out(static_cast<std::size_t>(n) * count + 1);
@@ -260,16 +277,27 @@ struct ending {
 class machine {
 public:
     // Opens a machine with an arbiter of a kind, VME_PRIORITY or VME_ROTATING.
-    explicit machine(const std::vector<vme_board> &boards, std::uint8_t kind = VME_PRIORITY) : releases(new vme_releases VME_RELEASES_INIT)
+    explicit machine(const std::vector<vme_board> &boards, std::uint8_t kind = VME_PRIORITY) : machine(boards, opened(boards, kind)) {}
+
+    // Opens a machine with the boards and the arbiter of a configuration file, whose scripts are checked and not run. Throws VME_C1 to
+    // VME_C14 if the file is refused, as a script_error if it is a script.
+    static machine load(const bytes &file)
     {
-        std::vector<vme_processor> opened(boards.size() + 1);
-        error::check(boards.empty() ? static_cast<std::uint8_t>(VME_BAD_CALL)
-                                    : vme_machine_open(boards.data(), boards.size(), kind, opened.data(), boards.size()));
-        for (std::size_t i = 0; i < boards.size(); i++) {
-            processors.emplace_back(opened[i], releases.get());
-            sizes.push_back(boards[i].entry.size);
-        }
+        std::vector<vme_board> boards(most_boards);
+        std::vector<vme_processor> out(most_boards);
+        vme_loaded found{};
+        const std::uint8_t none = 0;
+        const std::uint8_t result = vme_machine_load(file.empty() ? &none : file.data(), file.size(), boards.data(), boards.size(), out.data(),
+                                                     out.size(), &found);
+        if (result == VME_C14)
+            throw script_error(found);
+        error::check(result);
+        boards.resize(found.count);
+        return machine(boards, out);
     }
+
+    // Its boards, in order of slots.
+    const std::vector<vme_board> &boards() const noexcept { return own; }
 
     // The number of its boards.
     std::size_t size() const noexcept { return processors.size(); }
@@ -283,7 +311,10 @@ public:
         std::vector<vme_processor> all;
         all.reserve(processors.size() + 1);
         std::vector<std::uint64_t> steps(processors.size() + 1);
-        bytes last(std::accumulate(sizes.begin(), sizes.end(), std::size_t{1}));
+        std::size_t size = 1;
+        for (const vme_board &board : own)
+            size += board.entry.size;
+        bytes last(size);
         for (processor &own : processors)
             all.push_back(own.release());
         const std::uint8_t result = vme_machine_close(all.data(), all.size(), steps.data(), steps.size(), last.data(), last.size() - 1);
@@ -293,15 +324,32 @@ public:
         ending end{steps, {}, steps.back()};
         end.steps.pop_back();
         auto at = last.cbegin();
-        for (const std::uint32_t size : sizes) {
-            end.memories.emplace_back(at, at + size);
-            at += size;
+        for (const vme_board &board : own) {
+            end.memories.emplace_back(at, at + board.entry.size);
+            at += board.entry.size;
         }
         return end;
     }
 
 private:
-    std::vector<std::uint32_t> sizes; // of the boards
+    static constexpr std::size_t most_boards = 21;
+
+    machine(const std::vector<vme_board> &boards, const std::vector<vme_processor> &out) : own(boards), releases(new vme_releases VME_RELEASES_INIT)
+    {
+        processors.reserve(boards.size());
+        for (std::size_t i = 0; i < boards.size(); i++)
+            processors.emplace_back(out[i], releases.get());
+    }
+
+    static std::vector<vme_processor> opened(const std::vector<vme_board> &boards, std::uint8_t kind)
+    {
+        std::vector<vme_processor> out(boards.size() + 1);
+        error::check(boards.empty() ? static_cast<std::uint8_t>(VME_BAD_CALL)
+                                    : vme_machine_open(boards.data(), boards.size(), kind, out.data(), boards.size()));
+        return out;
+    }
+
+    std::vector<vme_board> own;
     std::unique_ptr<vme_releases> releases; // before the processors, whose waiters point to it
     std::vector<processor> processors;
 };

@@ -174,8 +174,8 @@ static inline uint8_t vme_read_modify_write(vme_processor *p, const vme_waiter *
     return result == VME_OK ? vme_read_bytes(p, out) : result;
 }
 
-/* Reads a block of count data of n bytes each, VME_MOST_READ bytes at most, to out, which has count * n bytes. Writes to moved how many
- * bytes were read: all with VME_OK, and with VME_BERR those before the error. Returns what a read does, and VME_BAD_CALL for more bytes. */
+/* Reads a block of count data of n bytes each to out, which has count * n bytes. Writes to moved how many bytes were read: all with
+ * VME_OK, and with VME_BERR those before the error. Returns what a read does, and VME_NO_MEMORY. */
 static inline uint8_t vme_block_read(vme_processor *p, const vme_waiter *waiter, uint8_t am, uint32_t addr, uint8_t n, uint16_t count,
                                      uint8_t *out, size_t *moved)
 {
@@ -190,7 +190,7 @@ static inline uint8_t vme_block_read(vme_processor *p, const vme_waiter *waiter,
     return result;
 }
 
-/* Writes a block of count data of n bytes each. With VME_BERR the data before the error were written. Returns what a read does. */
+/* Writes a block of count data of n bytes each. With VME_BERR the data before the error were written. Returns what vme_block_read does. */
 static inline uint8_t vme_block_write(vme_processor *p, const vme_waiter *waiter, uint8_t am, uint32_t addr, uint8_t n, uint16_t count,
                                       const uint8_t *bytes)
 {

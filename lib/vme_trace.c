@@ -19,6 +19,7 @@ enum { LINE = 144 /* of a datum, with its end */ };
 
 #define UNTRACED(name) __typeof__(vme_##name) untraced_vme_##name
 UNTRACED(machine_open);
+UNTRACED(machine_load);
 UNTRACED(machine_close);
 UNTRACED(processor_drop);
 UNTRACED(processor_try_local_read);
@@ -237,17 +238,19 @@ static void write_transfer(traced *own, uint8_t result)
 
 /* ---- Machines ---- */
 
-/* Writes the configuration file with the boards, beside the log. */
-static void write_boards(log *to, const vme_board *boards, size_t count, uint8_t arbiter)
+/* What a machine is opened by: boards and an arbiter, or the bytes of a configuration file. */
+typedef struct source {
+    const vme_board *boards;
+    size_t count;
+    uint8_t arbiter;
+    const uint8_t *bytes; /* or NULL */
+    size_t size;
+} source;
+
+/* Writes the keys of boards and of their arbiter. */
+static void print_boards(FILE *file, const vme_board *boards, size_t count, uint8_t arbiter)
 {
     static const char *const truth[] = { "false", "true" };
-    char path[MOST_PATH + 8];
-    snprintf(path, sizeof path, "%s.toml", to->path);
-    FILE *file = fopen(path, "w");
-    if (!file) {
-        give_up(to, "the file of its boards cannot be written");
-        return;
-    }
     if (arbiter != VME_PRIORITY)
         fprintf(file, "arbiter = \"rotating\"\n");
     for (size_t i = 0; i < count; i++) {
@@ -258,7 +261,20 @@ static void write_boards(log *to, const vme_board *boards, size_t count, uint8_t
         fprintf(file, "uat = %s\nblt = %s\nrmw = %s\nsupervisory = %s\n", truth[width == 32 && it->cls.uat], truth[it->cls.blt != 0],
                 truth[it->cls.rmw != 0], truth[it->entry.supervisory != 0]);
     }
-    if (fclose(file) != 0)
+}
+
+/* Writes the configuration file with the boards, beside the log. */
+static void write_boards(log *to, const source *of)
+{
+    char path[MOST_PATH + 8];
+    snprintf(path, sizeof path, "%s.toml", to->path);
+    FILE *file = fopen(path, "w");
+    int is_written = file != NULL;
+    if (file && of->bytes)
+        is_written = fwrite(of->bytes, 1, of->size, file) == of->size;
+    else if (file)
+        print_boards(file, of->boards, of->count, of->arbiter);
+    if ((file && fclose(file) != 0) || !is_written)
         give_up(to, "the file of its boards cannot be written");
 }
 
@@ -282,10 +298,10 @@ static int name_log(log *to)
     return 1;
 }
 
-static void begin(log *to, const vme_board *boards, size_t count, uint8_t arbiter)
+static void begin(log *to, const source *of)
 {
     memset(to, 0, sizeof *to);
-    to->alive = (uint32_t)count;
+    to->alive = (uint32_t)of->count;
     to->opened = now();
     if (!name_log(to)) {
         to->is_off = 1;
@@ -297,7 +313,7 @@ static void begin(log *to, const vme_board *boards, size_t count, uint8_t arbite
         return;
     }
     close(file);
-    write_boards(to, boards, count, arbiter);
+    write_boards(to, of);
 }
 
 /* The structs of a machine: that of its log is allocated after those of its processors. Returns whether there is memory. */
@@ -320,32 +336,56 @@ static int allocate(traced **structs, size_t count, log **to)
     return 0;
 }
 
-uint8_t vme_machine_open(const vme_board *boards, size_t count, uint8_t arbiter, vme_processor *out, size_t out_count)
+/* Gives the processors of a machine structs and a log, or drops them. */
+static uint8_t wrap(vme_processor *opened, const source *of, vme_processor *out)
 {
-    vme_processor opened[MOST_BOARDS];
     traced *structs[MOST_BOARDS];
     log *to = NULL;
-    if (count > MOST_BOARDS || out_count < count) /* a call that fails */
-        return untraced_vme_machine_open(boards, count, arbiter, out, out_count);
-    memset(opened, 0, sizeof opened);
-    const uint8_t result = untraced_vme_machine_open(boards, count, arbiter, opened, count);
-    if (result != VME_OK)
-        return result;
-    if (!allocate(structs, count, &to)) {
-        for (size_t i = 0; i < count; i++)
+    if (!allocate(structs, of->count, &to)) {
+        for (size_t i = 0; i < of->count; i++)
             untraced_vme_processor_drop(&opened[i]);
         return VME_NO_MEMORY;
     }
-    begin(to, boards, count, arbiter);
-    for (size_t i = 0; i < count; i++) {
+    begin(to, of);
+    for (size_t i = 0; i < of->count; i++) {
         memset(structs[i], 0, sizeof *structs[i]);
         structs[i]->own = opened[i];
         structs[i]->to = to;
-        structs[i]->slot = boards[i].slot;
+        structs[i]->slot = of->boards[i].slot;
         out[i].full = 1;
         out[i].hidden = structs[i];
     }
     return VME_OK;
+}
+
+uint8_t vme_machine_open(const vme_board *boards, size_t count, uint8_t arbiter, vme_processor *out, size_t out_count)
+{
+    vme_processor opened[MOST_BOARDS];
+    const source of = { boards, count, arbiter, NULL, 0 };
+    if (count > MOST_BOARDS || out_count < count) /* a call that fails */
+        return untraced_vme_machine_open(boards, count, arbiter, out, out_count);
+    memset(opened, 0, sizeof opened);
+    const uint8_t result = untraced_vme_machine_open(boards, count, arbiter, opened, count);
+    return result == VME_OK ? wrap(opened, &of, out) : result;
+}
+
+uint8_t vme_machine_load(const uint8_t *file, size_t size, vme_board *boards, size_t boards_count, vme_processor *out, size_t out_count,
+                         vme_loaded *found)
+{
+    vme_processor opened[MOST_BOARDS];
+    vme_board all[MOST_BOARDS];
+    vme_loaded own = *found;
+    memset(opened, 0, sizeof opened);
+    uint8_t result = untraced_vme_machine_load(file, size, all, MOST_BOARDS, opened, out_count < MOST_BOARDS ? out_count : MOST_BOARDS, &own);
+    if (result == VME_OK) {
+        const source of = { all, own.count, own.arbiter, file, size };
+        result = wrap(opened, &of, out);
+    }
+    if (result == VME_OK)
+        memcpy(boards, all, (own.count < boards_count ? own.count : boards_count) * sizeof *all);
+    if (result == VME_OK || result == VME_C14)
+        *found = own;
+    return result;
 }
 
 /* Frees what a processor of C points to, and leaves it empty. */

@@ -184,6 +184,7 @@ static void check_transfers(void)
 static void check_blocks(void)
 {
     uint8_t block[64];
+    static uint8_t whole[256], back[256];
     size_t moved = 9;
     vme_processor p[2] = { { 0, NULL }, { 0, NULL } };
     vme_board boards[2] = { board_of(0), board_of(1) };
@@ -193,11 +194,16 @@ static void check_blocks(void)
         block[k] = (uint8_t)(k + 1);
     want("write", vme_block_write(&p[0], &waiter, BLOCK_AM, address(1, 0), 4, 16, block), VME_BERR);
     memset(block, 0, sizeof block);
-    want("read of more bytes than one transfer reads", vme_block_read(&p[0], &waiter, BLOCK_AM, address(1, 0), 4, 11, block, &moved),
-         VME_BAD_CALL);
-    want("read", vme_block_read(&p[0], &waiter, BLOCK_AM, address(1, 0), 4, 10, block, &moved), VME_BERR);
+    want("read", vme_block_read(&p[0], &waiter, BLOCK_AM, address(1, 0), 4, 16, block, &moved), VME_BERR);
     want("bytes that were read", (uint8_t)moved, 24);
     want("the last one", block[23], 24);
+    for (size_t k = 0; k < sizeof whole; k++)
+        whole[k] = (uint8_t)(k * 7 + 1);
+    want("write of 256 bytes", vme_block_write(&p[1], &waiter, BLOCK_AM, address(0, 0), 4, 64, whole), VME_OK);
+    want("read of 256 bytes", vme_block_read(&p[1], &waiter, BLOCK_AM, address(0, 0), 4, 64, back, &moved), VME_OK);
+    want("the same bytes", (uint8_t)(moved == sizeof back && memcmp(whole, back, sizeof back) == 0), 1);
+    want("a short read after a long one", vme_block_read(&p[1], &waiter, BLOCK_AM, address(0, 4), 2, 3, back, &moved), VME_OK);
+    want("its bytes", (uint8_t)(moved == 6 && memcmp(whole + 4, back, 6) == 0), 1);
     want("K6", vme_block_read(&p[0], &waiter, BLOCK_AM, address(0, 252), 4, 2, block, &moved), VME_K6);
     want("close", close_all(p, 2), VME_OK);
 }

@@ -1,6 +1,6 @@
-/* Each allocation of open, of the start of a block write and of close is refused in turn, by an allocator of this program's own. A
-   refused open gives VME_NO_MEMORY, no processor, and all its memory back; a refused start or close leaves the machine as it was. No
-   event allocates, and no start of another transfer. */
+/* Each allocation of open, of load, of the start of a block write, of the start of a block read and of close is refused in turn, by an
+   allocator of this program's own. A refused open or load gives VME_NO_MEMORY, no processor, and all its memory back, as does a file that
+   is refused; a refused start or close leaves the machine as it was. No event allocates, and no start of another transfer. */
 #include "cases.h"
 #include "vme_alloc.h"
 
@@ -46,19 +46,41 @@ static uint8_t open_three(vme_processor *out)
     return vme_machine_open(boards, COUNT, VME_PRIORITY, out, COUNT);
 }
 
+static const char lawful[] = "arbiter = 'rotating'\nschedule = [[1, 2], [3, 1]]\n"
+                             "[[board]]\nslot = 1\nbase = 0\nsize = 64\nscript = 'lw 00000030 01'\n"
+                             "[[board]]\nslot = 3\nbase = 64\nsize = 64\nscript = '''\nput 1 00000001\ntake 1'''\n"
+                             "[[board]]\nslot = 4\nbase = 128\nsize = 64\n"
+                             "[[mailbox]]\nam = 9\naddr = 64\nslots = 4\n";
+
+static uint8_t load_text(const char *text, vme_processor *out)
+{
+    vme_board boards[COUNT];
+    vme_loaded found;
+    return vme_machine_load((const uint8_t *)text, strlen(text), boards, COUNT, out, COUNT, &found);
+}
+
+static uint8_t load_three(vme_processor *out)
+{
+    return load_text(lawful, out);
+}
+
 /* Opens with allocation after allocation refused, until none is. Returns how many were. */
-static long refuse_open(vme_processor *out)
+static long refuse_open(uint8_t (*open_by)(vme_processor *), vme_processor *out)
 {
     for (long n = 0;; n++) {
         left = n;
-        const uint8_t result = open_three(out);
+        const uint8_t result = open_by(out);
         const bool is_met = left < 0;
         left = -1;
         if (!is_met) {
             want("open", result, VME_OK);
             return n;
         }
-        want("open without memory", result, VME_NO_MEMORY);
+        if (open_by == load_three && result == VME_OK) /* the reader of files does without it */
+            for (int i = 0; i < COUNT; i++)
+                want("drop", vme_processor_drop(&out[i]), VME_OK);
+        else
+            want("open without memory", result, VME_NO_MEMORY);
         want("its structs", (uint8_t)(out[0].full | out[1].full | out[2].full), 0);
         if (live) {
             fprintf(stderr, "refused allocation %ld of open: %ld blocks are not freed\n", n, live);
@@ -89,14 +111,15 @@ static long refuse_close(vme_processor *all)
     }
 }
 
-/* The same for the start of a block write. */
-static long refuse_start(vme_processor *p)
+/* The same for the start of a block read or write. */
+static long refuse_start(vme_processor *p, uint8_t kind)
 {
-    const vme_request write = vme_request_of(VME_BLOCK_WRITE, BLOCK_AM, address(2, 256), 4, 64);
+    const vme_request request = vme_request_of(kind, BLOCK_AM, address(2, 256), 4, 64);
     static uint8_t block[256];
     for (long n = 0;; n++) {
         left = n;
-        const uint8_t result = vme_processor_start_write(p, &write, block, sizeof block);
+        const uint8_t result =
+            kind == VME_BLOCK_READ ? vme_processor_start_read(p, &request) : vme_processor_start_write(p, &request, block, sizeof block);
         const bool is_met = left < 0;
         left = -1;
         if (!is_met) {
@@ -114,8 +137,26 @@ int main(void)
     vme_processor all[COUNT];
     const vme_datum datum = { 4, { 1, 2, 3, 4 } };
     vme_datum out = { 0, { 0 } };
+    long loaded = 0;
     memset(all, 0, sizeof all);
-    const long opened = refuse_open(all);
+    if (load_text("", all) != VME_BAD_STATE) { /* not the double, which reads no file */
+        loaded = refuse_open(load_three, all);
+        for (int i = 0; i < COUNT; i++)
+            want("drop", vme_processor_drop(&all[i]), VME_OK);
+        char text[sizeof lawful];
+        for (size_t size = 0; size < sizeof lawful - 1; size++) { /* files that end before their end */
+            memcpy(text, lawful, size);
+            text[size] = '\0';
+            if (load_text(text, all) == VME_OK)
+                for (int i = 0; i < COUNT; i++)
+                    vme_processor_drop(&all[i]);
+            if (live) {
+                fprintf(stderr, "after %zu bytes of a file %ld blocks are not freed\n", size, live);
+                return 1;
+            }
+        }
+    }
+    const long opened = refuse_open(open_three, all);
     asked = 0;
     for (int i = 0; i < 1000; i++) {
         want("write", vme_processor_try_local_write(&all[i % COUNT], 8, &datum), VME_OK);
@@ -127,12 +168,12 @@ int main(void)
         fprintf(stderr, "%ld allocations in events\n", asked);
         return 1;
     }
-    const long started = refuse_start(&all[2]);
+    const long started = refuse_start(&all[2], VME_BLOCK_WRITE) + refuse_start(&all[2], VME_BLOCK_READ);
     const long closed = refuse_close(all);
     if (live) {
         fprintf(stderr, "after close %ld blocks are not freed\n", live);
         return 1;
     }
-    printf("%ld allocations of open, %ld of a start and %ld of close refused in turn\n", opened, started, closed);
+    printf("%ld allocations of open, %ld of load, %ld of starts and %ld of close refused in turn\n", opened, loaded, started, closed);
     return opened == 0;
 }

@@ -15,6 +15,7 @@ from pyvme import (
     NoBoard,
     Refused,
     Result,
+    ScriptRefused,
     VmeError,
 )
 
@@ -73,6 +74,49 @@ class MachineTest(unittest.TestCase):
             with Machine(boards(1)) as machine:
                 raise KeyError
         self.has_result(MachineResult.CLOSED, machine.processors[0].local_read, 0, 4)
+
+    def test_long_blocks(self) -> None:
+        data = bytes(k * 7 % 256 for k in range(256))
+        large = [MachineBoard(Entry(address(i, 0), 4096, 32, 0), slot=i + 1) for i in range(2)]
+        with Machine(large) as machine:
+            first, second = machine.processors
+            first.block_write(BLOCK_AM, address(1, 256), 4, data)
+            self.assertEqual(second.block_read(BLOCK_AM, address(1, 256), 4, 64), data)
+            first.block_write(0x08, address(1, 2048), 8, data * 8)
+            self.assertEqual(second.block_read(0x08, address(1, 2048), 8, 256), data * 8)
+            self.has_result(Result.K6, second.block_read, BLOCK_AM, address(1, 8), 4, 64)
+            self.has_result(Result.K8, second.block_read, BLOCK_AM, address(1, 0), 1, 257)
+
+    def test_load(self) -> None:
+        try:
+            Machine.load(b"")
+        except VmeError as error:
+            if error.result == Result.BAD_STATE:
+                self.skipTest("this machine reads no file")
+            self.assertEqual(error.result, MachineResult.C11)
+        text = b"""arbiter = "rotating"
+            [[board]]\nslot = 2\nbase = 0\nsize = 64\nscript = "lw 00000000 01"
+            [[board]]\nslot = 9\nlevel = 1\nspace = "a24"\nbase = 256\nsize = 32\nwidth = 16\nblt = false\nsupervisory = true"""
+        with Machine.load(text) as machine:
+            self.assertEqual([(it.slot, it.level, it.width, it.uat, it.blt, it.rmw) for it in machine.boards],
+                             [(2, 3, 32, True, True, True), (9, 1, 16, False, False, True)])
+            entries = [(it.entry.base, it.entry.size, it.entry.space, it.entry.supervisory) for it in machine.boards]
+            self.assertEqual(entries, [(0, 64, 32, 0), (256, 32, 24, 1)])
+            first, second = machine.processors
+            self.assertEqual(first.local_read(0, 1), b"\0")
+            second.local_write(4, b"ab")
+            self.assertEqual(first.read(0x3D, 260, 2), b"ab")
+            self.assertRaises(NoBoard, first.read, 0x39, 260, 2)
+        self.assertEqual(machine.ending.steps, [1, 2])
+        for refused, result in ((b"[", MachineResult.C6), (b"x = 1", MachineResult.C7), (b"\xff", MachineResult.C6),
+                                (text.replace(b"= 256", b"= 2"), Result.C3), (text.replace(b"= 9", b"= 2"), MachineResult.C8)):
+            with self.assertRaises(Refused) as caught:
+                Machine.load(refused)
+            self.assertEqual(caught.exception.result, result)
+        with self.assertRaises(ScriptRefused) as script:
+            Machine.load(text.replace(b"lw", b"lx"))
+        self.assertEqual((script.exception.slot, script.exception.line, script.exception.refusal), (2, 1, "S2"))
+        self.assertEqual(str(script.exception), "C14 slot 2 line 1 S2")
 
     def test_refusals(self) -> None:
         self.has_result(Result.BAD_CALL, Machine, [])

@@ -34,8 +34,8 @@ bytes_of homes = flat_map (λ home. bytes_in home.object) homes
 abbrev pub counts_of : List (Home BusObject) → List ℕ
 counts_of homes = map (λ home. home.count) homes
 
--- new numbers in place of the first old ones, as many as there are old ones
-abbrev pub written_over : List ℕ → List ℕ → List ℕ
+-- new values in place of the first old ones, as many as there are old ones
+abbrev pub written_over : {X : Type 0} → List X → List X → List X
 written_over new old = take (length old) new ++ drop (length new) old
 
 -- the end: one history has all entries of these processors and no others, and leads to these objects, whose numbers of

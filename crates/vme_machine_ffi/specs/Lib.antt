@@ -1,8 +1,10 @@
 pub mod Results
 pub mod Structs
 pub mod Buffers
+pub mod Boards
 pub mod Calls
 pub mod Closings
 pub mod Openings
+pub mod Files
 pub mod Requests
 pub mod Transfers

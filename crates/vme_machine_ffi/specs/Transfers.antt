@@ -1,26 +1,37 @@
 -- Defines the transfers of C over the bus.
 use Rattle.std.specs.Prelude.{ℕ, ◌≡◌, ◌⊎◌, ◌<◌, ◌≤◌, List, [], ◌++◌, length, drop, Option, Some, None, Result, Ok, Err}
 use Rattle.std.specs.Arc.{arc_value}
-use Rattle.vme_cycle.specs.declared.fault.CycleFault.{CycleFault}
 use Rattle.vme_cycle.specs.declared.request.Request.{Request}
-use Rattle.vme_cycle.specs.Lawful.{transfer_of}
 use Rattle.vme_arbiter.specs.declared.command.ArbReply.TheVariants.{Granted, Waiting, Denied, Freed}
 use Rattle.vme_core.specs.declared.event.EventReply.{EventReply}
 use Rattle.vme_core.specs.declared.event.EventReply.TheVariants as replies
 use Rattle.vme_master.specs.declared.outcome.Outcome.{Outcome}
 use Rattle.vme_master.specs.declared.outcome.Outcome.TheVariants as outcomes
 use Rattle.vme_processor.specs.declared.processor.Processor.{Processor}
+use Rattle.vme_processor.specs.declared.transfer.StartFault.{StartFault}
+use Rattle.vme_processor.specs.declared.transfer.StartFault.TheVariants.{Running, OutOfMemory, Refused}
 use Rattle.vme_processor.specs.declared.transfer.StepFault.{StepFault}
 use Rattle.vme_processor.specs.declared.transfer.StepFault.TheVariants.{Busy, Spent, NoBoard}
-use Rattle.vme_processor.specs.Transfers.{WasBusy, Steps, Starts, outcome_of}
+use Rattle.vme_processor.specs.Transfers.{WasBusy, Steps, Starts, IsWhy, outcome_of}
 use Rattle.vme_c_types.specs.Results as numbers
 use Rattle.vme_machine_ffi.specs.Results as results
 
+-- the number of a start that fails
+abbrev pub start_number : StartFault → ℕ
+start_number Running = numbers.bad_call
+start_number OutOfMemory = numbers.no_memory
+start_number (Refused fault) = numbers.refusal_number fault
+
+-- a start that fails: the processor is unchanged
+pub record StartsNot (request : Request) (result : ℕ) (p q : Processor) : Type 0 where
+  pub fault : StartFault
+  pub why : IsWhy request p fault
+  pub number : result ≡ start_number fault
+  pub unchanged : q ≡ p
+
 -- a start of a request, or of none because of a number
 abbrev pub StartsAs : Result Request ℕ → ℕ → Processor → Processor → Type 0
-StartsAs (Ok request) result p q = ((result ≡ numbers.ok) × Starts request p q)
-    ⊎ (((fault : CycleFault) × (transfer_of request ≡ Err fault) × (result ≡ numbers.refusal_number fault) × (q ≡ p))
-    ⊎ ((result ≡ numbers.bad_call) × (q ≡ p)))
+StartsAs (Ok request) result p q = ((result ≡ numbers.ok) × Starts request p q) ⊎ StartsNot request result p q
 StartsAs (Err number) result p q = (result ≡ number) × (q ≡ p)
 
 -- the number of a step after which a transfer goes on, by the reply to its event

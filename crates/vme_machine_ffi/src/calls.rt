@@ -11,11 +11,12 @@ use crate::handle::VmeProcessor;
 use crate::results::{BUSY, CLOSED, DENIED, FREED, GRANTED, SPENT, WAITING};
 use std::alloc::Global;
 use vme_arbiter::ArbReply;
-use vme_bus_objects::BusCommand;
 use vme_c_types::{BUS_ERROR, OK, VmeDatum, VmeModify, datum_from, datum_of, modify_of};
 use vme_core::EventReply;
-use vme_memory::{BoardCmd, Reply};
+use vme_memory::{BoardCmd, ByteMemory, Reply};
+use vme_object::{CommandRef, Operation};
 use vme_port::TryFault;
+use vme_processor::LocalRead;
 
 /// What a call came to.
 #[derive(Drop)]
@@ -67,17 +68,17 @@ fn answer(called: &Called, out: &mut VmeDatum) -> u8
     number_of(called)
 }
 
-/// Performs one command on the processor's own board, if no other processor holds it.
-fn call(alloc: Global, p: &mut VmeProcessor, cmd: &BusCommand) -> Called
+/// Performs one operation on the processor's own board, if no other processor holds it.
+fn call<A: Operation<ByteMemory>>(alloc: Global, p: &mut VmeProcessor, operation: &A) -> Called
     ensures closed { IfNone p.old.handle.value ((result ≡ Called.Closed) × (p.new.handle.value ≡ None)) }
     ensures stays { IfSome p.old.handle.value (λ a. IsSome p.new.handle.value) }
-    ensures open { IfSome p.old.handle.value (λ a. IfSome p.new.handle.value (λ b. Does cmd.now result a b)) }
+    ensures open { IfSome p.old.handle.value (λ a. IfSome p.new.handle.value (λ b.
+        Does (commands.Board (A.command operation.now)) result a b)) }
 {
     let Some(mut processor) = p.take(alloc) else {
         return Called::Closed;
     };
-    let index = processor.index();
-    let called = match processor.try_event(index, cmd) {
+    let called = match processor.try_own(operation) {
         Ok(reply) => Called::Reply(reply),
         Err(TryFault::Busy) => Called::Busy,
         Err(TryFault::Spent) => Called::Spent,
@@ -101,8 +102,7 @@ pub extern "C" fn vme_processor_try_local_read(
     ensures open { IfSome p.old.handle.value (λ a. IfSome p.new.handle.value (λ b.
         Answers (commands.Board (board_commands.LocalRead at n)) result out.old out.new a b)) }
 {
-    let cmd = BusCommand::Board(BoardCmd::LocalRead { offset: at, n });
-    let called = call(alloc, p, &cmd);
+    let called = call(alloc, p, &LocalRead { offset: at, n });
     answer(&called, out)
 }
 
@@ -120,11 +120,11 @@ pub extern "C" fn vme_processor_try_local_write(
     ensures open { IfSome p.old.handle.value (λ a. IfSome p.new.handle.value (λ b.
         AnswersDone (commands.Board (board_commands.LocalWrite at (record { items = datum_of datum.now }))) result a b)) }
 {
-    let cmd = BusCommand::Board(BoardCmd::LocalWrite {
+    let cmd = BoardCmd::LocalWrite {
         offset: at,
         bytes: datum_of(datum),
-    });
-    number_of(&call(alloc, p, &cmd))
+    };
+    number_of(&call(alloc, p, &CommandRef { cmd: &cmd }))
 }
 
 /// Performs a read-modify-write of `n` bytes, 1, 2 or 4, at offset `at` of the processor's own board
@@ -144,12 +144,12 @@ pub extern "C" fn vme_processor_try_local_modify(
     ensures open { IfSome p.old.handle.value (λ a. IfSome p.new.handle.value (λ b.
         Answers (commands.Board (board_commands.LocalModify at n (modify_of f.now))) result out.old out.new a b)) }
 {
-    let cmd = BusCommand::Board(BoardCmd::LocalModify {
+    let cmd = BoardCmd::LocalModify {
         offset: at,
         n,
         f: modify_of(f),
-    });
-    let called = call(alloc, p, &cmd);
+    };
+    let called = call(alloc, p, &CommandRef { cmd: &cmd });
     answer(&called, out)
 }
 

@@ -1,4 +1,4 @@
-ghost use Rattle.std.specs.Prelude.{◌≡◌, Some, None, IfSome, IfNone};
+ghost use Rattle.std.specs.Prelude.{◌≡◌, not, ◌==◌, Some, None, IfSome, IfNone};
 ghost use Rattle.std.specs.Option.{is_some};
 
 use std::alloc::Global;
@@ -10,9 +10,10 @@ use vme_processor::Processor;
 #[repr(C)]
 #[derive(Drop)]
 pub struct VmeProcessor {
-    full: bool,
+    /// 0 if it is empty. A word, since a byte would leave padding that each call copies.
+    full: usize,
     handle: Handle,
-    ghost agrees: { full ≡ is_some handle.value },
+    ghost agrees: { is_some handle.value ≡ not (full == 0) },
 }
 
 impl VmeProcessor {
@@ -21,7 +22,7 @@ impl VmeProcessor {
         ensures { result.handle.value ≡ None }
     {
         VmeProcessor {
-            full: false,
+            full: 0,
             handle: Handle::empty(),
         }
     }
@@ -31,7 +32,7 @@ impl VmeProcessor {
         ensures { result.handle.value ≡ Some processor.value }
     {
         VmeProcessor {
-            full: true,
+            full: 1,
             handle: Handle::of(processor),
         }
     }
@@ -43,7 +44,7 @@ impl VmeProcessor {
         ensures after { self.new.handle.value ≡ None }
     {
         let VmeProcessor { full, handle } = mem::replace(self, VmeProcessor::empty());
-        if !full {
+        if full == 0 {
             return None;
         }
         Some(handle.into_box(alloc))

@@ -8,6 +8,7 @@ mod buffers;
 mod calls;
 mod closing;
 mod handle;
+mod loading;
 mod opening;
 mod request;
 mod results;

@@ -1,7 +1,7 @@
 //! The opening of a machine.
 ghost use Rattle.std.specs.Prelude.{◌≡◌, ◌≢◌, IfOk, IfErr, map};
 ghost use Rattle.vme_c_types.specs.Boards.{entry_of};
-ghost use Rattle.vme_machine_ffi.specs.Openings.{memory_of, AreOpened, HasOpened};
+ghost use Rattle.vme_machine_ffi.specs.Openings.{memory_of, place_of, AreOpened, HasOpened};
 ghost use Rattle.vme_c_types.specs.Results.{ok};
 ghost use Rattle.vme_machine_ffi.specs.Structs.{values_of};
 
@@ -50,13 +50,13 @@ fn entries_of(alloc: Global, boards: &[VmeBoard]) -> Result<Vec<Entry>, AllocErr
 ///
 /// # Errors
 /// `AllocError` if an allocation fails.
-fn places_of(alloc: Global, boards: &[VmeBoard]) -> Result<Vec<Place>, AllocError> {
-    let mut places = Vec::new(alloc);
-    for board in boards {
-        places.push(Place {
-            slot: board.slot,
-            level: board.level,
-        })?;
+fn places_of(alloc: Global, boards: &[VmeBoard]) -> Result<Vec<Place>, AllocError>
+    ensures { IfOk result (λ r. r.items ≡ map place_of boards.now) }
+{
+    let mut places = Vec::with_capacity(alloc, boards.len())?;
+    for i in 0..boards.len() {
+        let (slot, level) = (boards[i].slot, boards[i].level);
+        places.push_reserved(Place { slot, level });
     }
     Ok(places)
 }
@@ -116,6 +116,28 @@ fn processors_of(
     }
 }
 
+/// Opens a machine of these boards, and writes its processors to the first structs. Returns `OK`, or
+/// the number of the reason why there is none, and writes nothing.
+pub(crate) fn open_boards(
+    alloc: Global,
+    out: &mut [VmeProcessor],
+    boards: &[VmeBoard],
+    arbiter: u8,
+) -> u8
+    ensures opened { result ≡ ok → HasOpened boards.now arbiter out.old out.new }
+    ensures failed { result ≢ ok → out.new ≡ out.old }
+{
+    let boxes = match processors_of(alloc, boards, arbiter) {
+        Ok(boxes) => boxes,
+        Err(number) => return number,
+    };
+    if boxes.len() > out.len() {
+        return BAD_CALL;
+    }
+    put_all(boxes, out);
+    OK
+}
+
 /// Opens a machine of these boards, whose memories are zero, and of a free bus with this kind of
 /// arbiter. Writes a processor for each board to the first structs, which must be empty, in the
 /// order of the boards. Returns `OK`; C1 to C4 for the address map; `BAD_CALL` if there is no board,
@@ -134,13 +156,5 @@ pub extern "C" fn vme_machine_open(
     if out.len() < boards.len() || !are_placed(boards) {
         return BAD_CALL;
     }
-    let boxes = match processors_of(alloc, boards, arbiter) {
-        Ok(boxes) => boxes,
-        Err(number) => return number,
-    };
-    if boxes.len() > out.len() {
-        return BAD_CALL;
-    }
-    put_all(boxes, out);
-    OK
+    open_boards(alloc, out, boards, arbiter)
 }

@@ -4,32 +4,43 @@ ghost use Rattle.vme_cycle.specs.declared.request.Request.{Request as AnyRequest
 ghost use Rattle.vme_processor.specs.Transfers.{outcome_of};
 ghost use Rattle.vme_machine_ffi.specs.Requests.{read_request, modify_request, AsksWrite};
 ghost use Rattle.vme_machine_ffi.specs.Results.{closed};
-ghost use Rattle.vme_machine_ffi.specs.Transfers.{StartsAs, StepsAs, Ends, Copies, bytes_of};
+ghost use Rattle.vme_machine_ffi.specs.Transfers.{StartsAs, StepsAs, Ends, Copies, bytes_of, start_number};
 
 use crate::handle::VmeProcessor;
 use crate::request::{modify_request, read_request, write_request};
 use crate::results::{BAD_STATE, BUSY, CLOSED, DENIED, MORE, SPENT, WAITING};
 use std::alloc::Global;
 use vme_arbiter::ArbReply;
-use vme_c_types::{BAD_CALL, BUS_ERROR, NO_BOARD, OK, VmeModify, VmeRequest, refusal_number};
+use vme_c_types::{
+    BAD_CALL, BUS_ERROR, NO_BOARD, NO_MEMORY, OK, VmeModify, VmeRequest, refusal_number,
+};
 use vme_core::EventReply;
 use vme_cycle::Request;
 use vme_master::OutcomeRef;
 use vme_processor::{Processor, StartFault, StepFault};
 
+/// The number of a start that fails.
+fn start_number(fault: StartFault) -> u8
+    ensures { result ≡ start_number fault }
+{
+    match fault {
+        StartFault::Running => BAD_CALL,
+        StartFault::OutOfMemory => NO_MEMORY,
+        StartFault::Refused(fault) => refusal_number(fault),
+    }
+}
+
 /// Starts a transfer, if there is a request for it, and returns the number of the start.
-fn start_with(processor: &mut Processor, request: Result<Request, u8>) -> u8
+fn start_with(alloc: Global, processor: &mut Processor, request: Result<Request, u8>) -> u8
     ensures { StartsAs request result processor.old processor.new }
 {
     let request = match request {
         Ok(request) => request,
         Err(number) => return number,
     };
-    match processor.start(request) {
+    match processor.start(alloc, request) {
         Ok(()) => OK,
-        Err(StartFault::Running) => BAD_CALL,
-        Err(StartFault::TooLong) => BAD_CALL,
-        Err(StartFault::Refused(fault)) => refusal_number(fault),
+        Err(fault) => start_number(fault),
     }
 }
 
@@ -42,14 +53,15 @@ fn start(alloc: Global, p: &mut VmeProcessor, request: Result<Request, u8>) -> u
     let Some(mut processor) = p.take(alloc) else {
         return CLOSED;
     };
-    let result = start_with(&mut processor, request);
+    let result = start_with(alloc, &mut processor, request);
     *p = VmeProcessor::of(processor);
     result
 }
 
 /// Starts a read over the bus: IEEE 1014-1987, 2.3.6 (basic data transfer) and 2.3.7 (block
 /// transfer). Returns `OK`; K1 to K9, the first refusal of the request; `BAD_CALL` if the last
-/// transfer has not ended or the request reads more than 40 bytes; or `CLOSED`.
+/// transfer has not ended; `NO_MEMORY` if a request that reads more than 40 bytes gets no buffer; or
+/// `CLOSED`.
 #[unsafe(no_mangle)]
 pub extern "C" fn vme_processor_start_read(
     alloc: Global,
@@ -64,7 +76,8 @@ pub extern "C" fn vme_processor_start_read(
     start(alloc, p, Ok(read_request(r)))
 }
 
-/// Starts a write of some bytes over the bus. Returns as `vme_processor_start_read`, and `NO_MEMORY`.
+/// Starts a write of some bytes over the bus. Returns as `vme_processor_start_read`; `NO_MEMORY` if a
+/// write of more than 40 bytes gets no copy of them.
 #[unsafe(no_mangle)]
 pub extern "C" fn vme_processor_start_write(
     alloc: Global,

@@ -1,9 +1,10 @@
 -- Defines the transfers of a processor over the bus.
-use Rattle.std.specs.Prelude.{ℕ, ◌≡◌, ◌+◌, ◌≤◌, [], ◌∷◌, Option, Some, None, Result, Ok, Err}
+use Rattle.std.specs.Prelude.{ℕ, ◌≡◌, ◌+◌, ◌<◌, ◌≤◌, Bool, true, false, not, [], ◌∷◌, Option, Some, None, is_some, Ok, Err}
 use Rattle.std.specs.Arc.{arc_value}
 use Rattle.vme_object.specs.History.{entry}
-use Rattle.vme_cycle.specs.declared.fault.CycleFault.{CycleFault}
+use Rattle.vme_cycle.specs.BlockBuffers.{inline_capacity}
 use Rattle.vme_cycle.specs.declared.request.Request.{Request}
+use Rattle.vme_cycle.specs.Requests.{read_len}
 use Rattle.vme_cycle.specs.Lawful.{Transfer, transfer_of}
 use Rattle.vme_memory.specs.declared.command.BoardCmd.{BoardCmd}
 use Rattle.vme_memory.specs.Locals.{command_given}
@@ -23,7 +24,7 @@ use Rattle.vme_port_array.specs.Parts.{indexed}
 use Rattle.vme_machine.specs.declared.member.Member.{Member}
 use Rattle.vme_processor.specs.declared.processor.Processor.{Processor}
 use Rattle.vme_processor.specs.declared.transfer.StartFault.{StartFault}
-use Rattle.vme_processor.specs.declared.transfer.StartFault.TheVariants.{Running, TooLong, Refused}
+use Rattle.vme_processor.specs.declared.transfer.StartFault.TheVariants.{Running, OutOfMemory, Refused}
 
 -- one event: a member adds one entry of a command to the object at an index, with the reply
 abbrev pub AddsEntry : ℕ → BusCommand → EventReply → Member BusObject BusCommand EventReply
@@ -51,11 +52,26 @@ pub record Starts (request : Request) (p q : Processor) : Type 0 where
   pub task : q.task ≡ Some (advance (fresh_task (bus_job (arc_value p.map) p.slot p.level transfer)) None)
   pub member : q.member ≡ p.member
 
--- a refusal is that of the request
-abbrev pub IfRefused : Result Transfer CycleFault → StartFault → Type 0
-IfRefused lawful Running = Unit {0}
-IfRefused lawful TooLong = Unit {0}
-IfRefused lawful (Refused fault) = lawful ≡ Err fault
+-- whether a transfer has not ended
+abbrev pub runs : Option TaskView → Bool
+runs None = false
+runs (Some task) = not (is_some (result_in (to_do task)))
+
+-- whether the processor has a transfer that has not ended
+abbrev pub is_running : Processor → Bool
+is_running p = runs p.task
+
+-- a request reads more bytes than a buffer holds inline
+pub record ReadsLong (request : Request) : Type 0 where
+  pub transfer : Transfer
+  pub lawful : transfer_of request ≡ Ok transfer
+  pub long : inline_capacity < read_len transfer.request
+
+-- why a processor starts no transfer of a request
+abbrev pub IsWhy : Request → Processor → StartFault → Type 0
+IsWhy request p Running = is_running p ≡ true
+IsWhy request p OutOfMemory = ReadsLong request
+IsWhy request p (Refused fault) = transfer_of request ≡ Err fault
 
 -- one event of a transfer: the member makes the next call, and the transfer advances by the reply
 pub record StepsTask (reply : EventReply) (m n : Member BusObject BusCommand EventReply)

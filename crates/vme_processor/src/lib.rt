@@ -2,11 +2,13 @@
 #![tactic(auto)]
 
 mod closing;
+mod local_read;
 mod opening;
 mod processor;
 mod transfer;
 
 pub use closing::{are_all_of_one, close};
+pub use local_read::LocalRead;
 pub use opening::{OpenError, Place, open};
 pub use processor::Processor;
 pub use transfer::{StartFault, StepFault};

@@ -4,17 +4,19 @@ ghost use Rattle.vme_port.specs.Calls.{UnlessBusy, IfBusy, IfSpent};
 ghost use Rattle.vme_port_array.specs.Arrays.{opening, passes_of, objects_of};
 ghost use Rattle.vme_port_array.specs.Parts.{part};
 ghost use Rattle.vme_port_array.specs.Calls.{entries_of, Adds};
+ghost use Rattle.vme_bus_objects.specs.declared.command.BusCommand.TheVariants as commands;
 ghost use Rattle.vme_bus_objects.specs.Objects.{bus_object_step};
 
 use std::alloc::Global;
 use std::sync::Arc;
 use std::sync::atomic::AtomicU64;
-use vme_bus_objects::{BusCommand, BusObject};
+use vme_bus_objects::{BoardOperation, BusObject};
 use vme_core::EventReply;
 use vme_decode::AddressMap;
 use vme_machine::Member;
 use vme_master::Task;
-use vme_object::CommandRef;
+use vme_memory::ByteMemory;
+use vme_object::Operation;
 use vme_port::TryFault;
 
 /// A processor of a machine. It reaches each board by the board's index, and the arbiter by the
@@ -40,41 +42,29 @@ pub struct Processor {
 }
 
 impl Processor {
-    /// Returns the index of the processor's own board.
-    pub fn index(&self) -> usize
-        ensures value { result ≡ self.now.index }
-        ensures below { result < self.now.boards }
-    {
-        self.index
-    }
-
-    /// Returns the number of boards.
-    pub fn boards(&self) -> usize
-        ensures { result ≡ self.now.boards }
-    {
-        self.boards
-    }
-
-    /// Performs one command on the object at an index if no other processor holds it, and returns
-    /// the reply. It never waits.
+    /// Performs an operation on the processor's own board if no other processor holds it, and
+    /// returns the reply. It never waits.
     ///
     /// # Errors
-    /// `Busy` if another processor holds the object, and `Spent` if the object has made 2^64 - 1
+    /// `Busy` if another processor holds the board, and `Spent` if the board has made 2^64 - 1
     /// steps. Neither adds an entry.
-    pub fn try_event(&mut self, index: usize, cmd: &BusCommand) -> Result<EventReply, TryFault>
-        requires { index ≤ self.old.boards }
+    pub fn try_own<A: Operation<ByteMemory>>(
+        &mut self,
+        operation: &A,
+    ) -> Result<EventReply, TryFault>
         ensures array { arc_value self.new.member.array ≡ arc_value self.old.member.array }
         ensures boards { self.new.boards ≡ self.old.boards }
         ensures index { self.new.index ≡ self.old.index }
         ensures task { self.new.task ≡ self.old.task }
         ensures adds { UnlessBusy result
             (Adds bus_object_step (opening (arc_value self.old.member.array))
-            (entries_of self.old.member.pass.who index cmd.now result) self.old.member.pass
-            self.new.member.pass) }
+            (entries_of self.old.member.pass.who self.old.index (commands.Board (A.command operation.now)) result)
+            self.old.member.pass self.new.member.pass) }
         ensures busy { IfBusy result (self.new.member.pass ≡ self.old.member.pass) }
         ensures shared { IfBusy result (2 ≤ passes_of (arc_value self.old.member.array)) }
-        ensures full { IfSpent result (length (part index self.new.member.pass.seen) ≡ 2 ^ 64 - 1) }
+        ensures full { IfSpent result (length (part self.old.index self.new.member.pass.seen) ≡ 2 ^ 64 - 1) }
     {
-        self.member.try_operation(index, &CommandRef { cmd })
+        self.member
+            .try_operation(self.index, &BoardOperation { operation })
     }
 }

@@ -5,14 +5,14 @@ ghost use Rattle.vme_core.specs.EventRefs.{call_asked};
 ghost use Rattle.vme_bus_objects.specs.declared.command.BusCommand.TheVariants as commands;
 ghost use Rattle.vme_master.specs.Events.{outcome_in};
 ghost use Rattle.vme_port_array.specs.Arrays.{objects_of};
-ghost use Rattle.vme_cycle.specs.Lawful.{transfer_of};
-ghost use Rattle.vme_processor.specs.Transfers.{AddsEntry, AddsCall, WasBusy, StepsTask, Steps, Starts, IfRefused, outcome_of};
+ghost use Rattle.vme_processor.specs.Transfers.{AddsEntry, AddsCall, WasBusy, StepsTask, Steps, Starts, IsWhy, is_running, outcome_of};
 
 use crate::processor::Processor;
+use std::alloc::Global;
 use vme_arbiter::ArbCmd;
 use vme_bus_objects::{ArbiterOperation, BoardOperation, BusObject};
 use vme_core::{EventRef, EventReply};
-use vme_cycle::{CycleFault, INLINE_LEN, Plan, Request};
+use vme_cycle::{BlockBuffer, CycleFault, Plan, Request};
 use vme_machine::Member;
 use vme_master::{OutcomeRef, Task};
 use vme_memory::ByteMemory;
@@ -24,8 +24,8 @@ use vme_port::TryFault;
 pub enum StartFault {
     /// The processor's last transfer has not ended.
     Running,
-    /// The request reads more bytes than fit in a transfer: 40.
-    TooLong,
+    /// An allocation failed. Only a request that reads more than 40 bytes allocates.
+    OutOfMemory,
     /// The first refusal of the request.
     Refused(CycleFault),
 }
@@ -124,15 +124,16 @@ fn step_task(
 }
 
 impl Processor {
-    /// Starts a transfer over the bus. The processor owns the request, which may read at most 40
-    /// bytes. Nothing happens on the bus yet.
+    /// Starts a transfer over the bus. The processor owns the request and a buffer for the bytes
+    /// that it reads, which is allocated here if they are more than 40. Nothing happens on the bus
+    /// yet.
     ///
     /// # Errors
     /// `Running` if the last transfer has not ended, `Refused` with the first refusal of the
-    /// request, and `TooLong` if it reads more than 40 bytes. The processor is unchanged.
-    pub fn start(&mut self, request: Request) -> Result<(), StartFault>
+    /// request, and `OutOfMemory` if the allocation fails. The processor is unchanged.
+    pub fn start(&mut self, alloc: Global, request: Request) -> Result<(), StartFault>
         ensures started { IfOk result (λ _. Starts request self.old self.new) }
-        ensures refused { IfErr result (IfRefused (transfer_of request)) }
+        ensures why { IfErr result (IsWhy request self.old) }
         ensures unchanged { IfErr result (λ _. self.new ≡ self.old) }
     {
         if self.is_running() {
@@ -142,10 +143,11 @@ impl Processor {
             Ok(plan) => plan.read_len(),
             Err(fault) => return Err(StartFault::Refused(fault)),
         };
-        if read_len > INLINE_LEN {
-            return Err(StartFault::TooLong);
-        }
-        let mut task = match Task::start_owned(&self.map, self.slot, self.level, request) {
+        let Ok(buffer) = BlockBuffer::with_capacity(alloc, read_len) else {
+            return Err(StartFault::OutOfMemory);
+        };
+        let (slot, level) = (self.slot, self.level);
+        let mut task = match Task::start_owned_into(&self.map, slot, level, request, buffer) {
             Ok(task) => task,
             Err(fault) => return Err(StartFault::Refused(fault)),
         };
@@ -155,7 +157,9 @@ impl Processor {
     }
 
     /// Returns whether the processor has a transfer that has not ended.
-    pub fn is_running(&self) -> bool {
+    pub fn is_running(&self) -> bool
+        ensures { result ≡ is_running self.now }
+    {
         match &self.task {
             Some(task) => !task.is_finished(),
             None => false,

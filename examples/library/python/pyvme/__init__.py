@@ -2,7 +2,7 @@
 
 A `Board` has bytes and replies to cycles and accesses. A `Request` is what a master asks for, and gives the `Lines` of each
 of its data. An `AddressMap` selects a board, and an `Arbiter` grants the bus. What C reports as a result is an exception
-here: `Refused` for K1 to K9 and C1 to C4, `BusError`, `NoBoard`, and `VmeError` for the others.
+here: `Refused` for K1 to K9 and C1 to C14, `BusError`, `NoBoard`, and `VmeError` for the others.
 
     >>> board = Board(4096)
     >>> board.write(4, bytes.fromhex("01020304"))
@@ -19,7 +19,7 @@ variable LIBVME names the shared object, if it is not where the loader looks for
 from .arbiter import Arbiter
 from .board import Board
 from .decoder import AddressMap
-from .errors import BusError, NoBoard, Refused, VmeError
+from .errors import BusError, NoBoard, Refused, ScriptRefused, VmeError
 from .library import VERSION, version
 from .machine import Ending, Machine, MachineBoard, Mailbox, Processor
 from .machine_library import MOST_READ, MachineResult
@@ -67,6 +67,7 @@ __all__ = [
     "Request",
     "RequestKind",
     "Result",
+    "ScriptRefused",
     "Strobes",
     "VmeError",
     "am_row",

@@ -14,7 +14,16 @@ class VmeError(Exception):
 
 
 class Refused(VmeError):
-    """A request (K1 to K9) or an address map (C1 to C4) is not lawful."""
+    """A request (K1 to K9), an address map (C1 to C4) or a configuration file (C1 to C14) is not lawful."""
+
+
+class ScriptRefused(Refused):
+    """A line of a script in a configuration file is not lawful (C14): `slot`, `line` from 1, and `refusal`, as "S2"."""
+
+    def __init__(self, result: IntEnum, slot: int, line: int, refusal: str) -> None:
+        super().__init__(result)
+        self.args = (f"{result.name} slot {slot} line {line} {refusal}",)
+        self.slot, self.line, self.refusal = slot, line, refusal
 
 
 class BusError(VmeError):

@@ -11,8 +11,16 @@ from dataclasses import dataclass, field
 from itertools import accumulate
 from types import TracebackType
 
-from .errors import VmeError
-from .machine_library import BoardStruct, MachineResult, ProcessorStruct, machine_lib, require_machine
+from .errors import ScriptRefused, VmeError
+from .machine_library import (
+    MOST_BOARDS,
+    BoardStruct,
+    LoadedStruct,
+    MachineResult,
+    ProcessorStruct,
+    machine_lib,
+    require_machine,
+)
 from .structures import ArbiterKind, BoardClass, Datum, Entry, Function, Modify, RequestKind, RequestStruct
 
 SPINS = 10
@@ -34,6 +42,12 @@ class MachineBoard:
 
     def _struct(self) -> BoardStruct:
         return BoardStruct(self.entry, BoardClass(self.width, self.uat, self.blt, self.rmw), self.slot, self.level)
+
+    @staticmethod
+    def _of(board: BoardStruct) -> MachineBoard:
+        own, cls = board.entry, board.cls
+        entry = Entry(own.base, own.size, own.space, own.supervisory)
+        return MachineBoard(entry, board.slot, board.level, cls.width, bool(cls.uat), bool(cls.blt), bool(cls.rmw))
 
 
 @dataclass(frozen=True)
@@ -120,7 +134,7 @@ class Processor:
         return self._transfer(RequestStruct(addr, 0, am, RequestKind.MODIFY, n, Modify.of(function, operand, put)))
 
     def block_read(self, am: int, addr: int, n: int, count: int) -> bytes:
-        """Reads a block of count data of n bytes each, `MOST_READ` bytes at most."""
+        """Reads a block of count data of n bytes each."""
         return self._transfer(RequestStruct(addr, count, am, RequestKind.BLOCK_READ, n))
 
     def block_write(self, am: int, addr: int, n: int, data: bytes) -> None:
@@ -287,6 +301,8 @@ class Machine:
     processors are dropped."""
 
     ending: Ending
+    boards: list[MachineBoard]
+    """Its boards, in order of slots."""
 
     def __init__(self, boards: Sequence[MachineBoard], kind: ArbiterKind = ArbiterKind.PRIORITY, *, limit: int = 0) -> None:
         """Opens a machine of zeros. `limit` is the number of sleeps of a millisecond in which nothing changes, after which a call gives
@@ -295,6 +311,25 @@ class Machine:
         opened = (ProcessorStruct * max(1, count))()
         structs = (BoardStruct * max(1, count))(*(it._struct() for it in boards))
         require_machine(machine_lib().machine_open(structs, count, kind, opened, count))
+        self._begin(boards, opened, limit)
+
+    @classmethod
+    def load(cls, file: bytes, *, limit: int = 0) -> Machine:
+        """Opens a machine with the boards and the arbiter of a configuration file, given as its bytes. The whole file is checked, but its
+        scripts are not run, and all bytes are zeros. Raises `Refused` with C1 to C14, for a script `ScriptRefused`, and `MemoryError`."""
+        opened, structs, found = (ProcessorStruct * MOST_BOARDS)(), (BoardStruct * MOST_BOARDS)(), LoadedStruct()
+        data = (c_uint8 * max(1, len(file)))(*file)
+        result = machine_lib().machine_load(data, len(file), structs, MOST_BOARDS, opened, MOST_BOARDS, byref(found))
+        if result == MachineResult.C14:
+            raise ScriptRefused(MachineResult.C14, found.slot, found.line, f"S{found.script}")
+        require_machine(result)
+        machine = cls.__new__(cls)
+        machine._begin([MachineBoard._of(it) for it in structs[: found.count]], opened, limit)
+        return machine
+
+    def _begin(self, boards: Sequence[MachineBoard], opened: Sequence[ProcessorStruct], limit: int) -> None:
+        """Gives each processor a cache line of its own."""
+        self.boards, count = list(boards), len(boards)
         self._line, self._sizes = (ProcessorStruct * (_PADDING * count))(), [it.entry.size for it in boards]
         for i in range(count):
             self._line[_PADDING * i] = opened[i]

@@ -10,18 +10,31 @@ from functools import lru_cache
 from pathlib import Path
 from types import SimpleNamespace
 
-from .errors import VmeError, require
+from .errors import Refused, VmeError, require
 from .numbers import Number, Record, checked
 from .structures import BoardClass, Datum, Entry, Modify, RequestStruct
 
 
-MOST_READ = 40
-"""The most bytes that one transfer reads."""
+MOST_READ = 2048
+"""The most bytes that one transfer reads: 256 data of 8."""
+
+MOST_BOARDS = 21
+"""The most boards of a machine."""
 
 
 class MachineResult(IntEnum):
     """The result of a call of a machine, besides those of `Result`."""
 
+    C5 = 0x15
+    C6 = 0x16
+    C7 = 0x17
+    C8 = 0x18
+    C9 = 0x19
+    C10 = 0x1A
+    C11 = 0x1B
+    C12 = 0x1C
+    C13 = 0x1D
+    C14 = 0x1E
     NO_MEMORY = 0x25
     NOT_GRANTED = 0x31
     BUS_DENIED = 0x32
@@ -34,13 +47,19 @@ class MachineResult(IntEnum):
 class ProcessorStruct(Record):
     """A processor, or nothing."""
 
-    _fields_ = [("full", c_uint8), ("hidden", c_void_p)]
+    _fields_ = [("full", c_size_t), ("hidden", c_void_p)]
 
 
 class BoardStruct(Record):
     """A board of a machine."""
 
     _fields_ = [("entry", Entry), ("cls", BoardClass), ("slot", c_uint16), ("level", c_uint8)]
+
+
+class LoadedStruct(Record):
+    """What a configuration file says of its machine, or where it is refused."""
+
+    _fields_ = [("count", c_size_t), ("slot", c_uint16), ("line", c_uint16), ("arbiter", c_uint8), ("script", c_uint8)]
 
 
 _OWN_RESULTS = frozenset(MachineResult)
@@ -50,6 +69,9 @@ _OFFSET, _BYTE_COUNT = Number("at", c_uint32), Number("n", c_uint8)
 # By name, without vme_: the type of the result, and those of the arguments.
 MACHINE_SIGNATURES: dict[str, tuple] = {
     "machine_open": (c_uint8, POINTER(BoardStruct), c_size_t, Number("kind", c_uint8), _OWN, c_size_t),
+    "machine_load": (
+        c_uint8, POINTER(c_uint8), c_size_t, POINTER(BoardStruct), c_size_t, _OWN, c_size_t, POINTER(LoadedStruct),
+    ),
     "machine_close": (c_uint8, _OWN, c_size_t, POINTER(c_uint64), c_size_t, POINTER(c_uint8), c_size_t),
     "processor_drop": (c_uint8, _OWN),
     "processor_try_local_read": (c_uint8, _OWN, _OFFSET, _BYTE_COUNT, POINTER(Datum)),
@@ -85,5 +107,5 @@ def require_machine(result: int) -> None:
     if result == MachineResult.NO_MEMORY:
         raise MemoryError("the machine has no memory")
     if result in _OWN_RESULTS:
-        raise VmeError(MachineResult(result))
+        raise (Refused if result <= MachineResult.C14 else VmeError)(MachineResult(result))
     require(result)

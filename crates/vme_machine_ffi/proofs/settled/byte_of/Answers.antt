@@ -1,4 +1,4 @@
-use Rattle.std.proofs.Common.{rules, arith, ◌≡◌, ◌<◌, length}
+use Rattle.std.proofs.Common.{rules, arith, ◌<◌, length}
 use Rattle.std.proofs.lemmas.Grind.{common_steps}
 use Rattle.std.proofs.lemmas.List.{get_or-append_right}
 use Rattle.vme_machine_ffi.proofs.Written.{bytes_more}
