@@ -135,7 +135,7 @@ static uint8_t move_block(const image *from, uint8_t am, uint32_t addr, size_t n
     const vme_waiter waiter = { &mapped->releases, LIMIT, NULL, NULL };
     vme_processor *p = &mapped->cpus[own].p;
     const size_t unit = am == from->wide ? 2048 : 256, most = least(left, unit - addr % unit);
-    const size_t count = n == length_at(0, left, n) ? (is_write ? most : least(most, VME_MOST_READ)) / n : 1;
+    const size_t count = n == length_at(0, left, n) ? most / n : 1;
     size_t moved = 0;
     const uint8_t result = is_write ? vme_block_write(p, &waiter, am, addr, (uint8_t)n, (uint16_t)count, bytes)
                                     : vme_block_read(p, &waiter, am, addr, (uint8_t)n, (uint16_t)count, bytes, &moved);

@@ -2,6 +2,7 @@
 #include "segment.h"
 
 #include <fcntl.h>
+#include <sched.h>
 #include <sys/mman.h>
 #include <sys/stat.h>
 #include <unistd.h>
@@ -61,16 +62,60 @@ segment *segment_map(const char *path)
     return map(file, (size_t)found.st_size, 0);
 }
 
-/* ---- The allocator of libvme_machine. What is freed is not used again: a segment has one machine. ---- */
+/* ---- The allocator of libvme_machine. What is freed is used again for a block of the same size. ---- */
+
+/* What lies before a block. */
+typedef struct segment_block {
+    uint64_t length; /* with this head */
+    struct segment_block *next; /* of those that are free */
+} segment_block;
+
+/* Takes the list of free blocks. Returns 0 if it cannot be had, as from a process that died while it had the list. */
+static int take_free(void)
+{
+    for (int tries = 0; tries < 10000; tries++) {
+        if (!__atomic_exchange_n(&mapped->is_taken, 1, __ATOMIC_ACQUIRE))
+            return 1;
+        sched_yield();
+    }
+    return 0;
+}
+
+static void give_free(void)
+{
+    __atomic_store_n(&mapped->is_taken, 0, __ATOMIC_RELEASE);
+}
+
+/* A free block of a length, or NULL. */
+static segment_block *reuse(uint64_t length)
+{
+    if (!__atomic_load_n(&mapped->free, __ATOMIC_RELAXED) || !take_free())
+        return NULL;
+    segment_block **at = (segment_block **)&mapped->free;
+    while (*at && (*at)->length != length)
+        at = &(*at)->next;
+    segment_block *found = *at;
+    if (found)
+        *at = found->next;
+    give_free();
+    return found;
+}
 
 vme_block rattle_alloc(size_t size, size_t align)
 {
-    const uint64_t length = (size + 15) / 16 * 16 + 16;
+    const uint64_t length = (size + 15) / 16 * 16 + sizeof(segment_block);
     (void)align;
     if (!mapped || size > mapped->size)
         return vme_block_at(NULL);
-    const uint64_t at = __atomic_fetch_add(&mapped->used, length, __ATOMIC_RELAXED);
-    return vme_block_at(at + length <= mapped->size ? (char *)mapped + at : NULL);
+    segment_block *found = reuse(length);
+    if (!found) {
+        const uint64_t at = __atomic_fetch_add(&mapped->used, length, __ATOMIC_RELAXED);
+        if (at + length > mapped->size)
+            return vme_block_at(NULL);
+        found = (segment_block *)((char *)mapped + at);
+        found->length = length;
+    }
+    return vme_block_at(found + 1);
 }
 
 vme_block rattle_realloc(void *old, size_t kept, size_t size, size_t align)
@@ -78,10 +123,17 @@ vme_block rattle_realloc(void *old, size_t kept, size_t size, size_t align)
     const vme_block block = rattle_alloc(size, align);
     if (block.ok)
         memcpy(block.at, old, kept < size ? kept : size);
+    if (block.ok)
+        rattle_dealloc(old);
     return block;
 }
 
 void rattle_dealloc(void *old)
 {
-    (void)old;
+    segment_block *given = (segment_block *)old - 1;
+    if (!take_free())
+        return;
+    given->next = (segment_block *)mapped->free;
+    mapped->free = given;
+    give_free();
 }

@@ -17,7 +17,9 @@ typedef struct segment_cpu {
 /* The head of a segment. */
 typedef struct segment {
     uint32_t is_open; /* 1 once the machine is there */
+    uint32_t is_taken; /* the list of free blocks */
     uint64_t size, used;
+    void *free; /* the first free block */
     void *shared; /* what the processes share besides the machine, by rattle_alloc */
     vme_releases releases;
     segment_cpu cpus[SEGMENT_PROCESSORS];
