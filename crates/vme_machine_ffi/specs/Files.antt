@@ -1,5 +1,5 @@
 -- Defines a machine that is opened by a configuration file, for C.
-use Rattle.std.specs.Prelude.{ℕ, ◌≡◌, ◌≤◌, List, length, map, Ok, Err, IsUtf8}
+use Rattle.std.specs.Prelude.{ℕ, ◌≡◌, ◌<◌, ◌≤◌, List, length, map, Ok, Err, IsUtf8}
 use Rattle.toml.specs.Parse.{parse_document}
 use Rattle.vme_grammar.specs.declared.fault.LineFault.{LineFault}
 use Rattle.vme_grammar.specs.declared.fault.LineFault.TheVariants.{LineTooLong, UnknownWord, WordCount, BadCode, BadAddress, BadNumber, BadBytes, MailboxBytes}
@@ -95,6 +95,12 @@ pub record Refuses (file : List ℕ) (old new : VmeLoaded) (result : ℕ) : Type
   pub bytes : (IsUtf8 file → ⊥) → fault ≡ NotToml
   pub number : result ≡ fault_number fault
   pub found : new ≡ reported fault old
+
+-- a lawful file has more boards than there are structs
+pub record HasMoreBoards (file : List ℕ) (out : List VmeProcessor) : Type 0 where
+  pub config : Configuration
+  pub read : configuration_in (parse_document file) ≡ Ok config
+  pub more : length out < length config.boards
 
 -- the first structs have the processors of a new machine of the boards of a file, which C gets too
 pub record HasLoaded (file : List ℕ) (boards new_boards : List VmeBoard) (out new_out : List VmeProcessor)

@@ -1,9 +1,9 @@
 //! The opening of a machine by a configuration file.
 ghost use Rattle.std.specs.Prelude.{◌≡◌, ◌≢◌, map, IfOk};
-ghost use Rattle.vme_c_types.specs.Results.{ok};
+ghost use Rattle.vme_c_types.specs.Results.{ok, bad_call};
 ghost use Rattle.vme_machine_ffi.specs.Closings.{written_over};
 ghost use Rattle.vme_machine_ffi.specs.Boards.{board_struct};
-ghost use Rattle.vme_machine_ffi.specs.Files.{fault_number, script_number, reported, bad_script, IsRefusal, Refuses, HasLoaded};
+ghost use Rattle.vme_machine_ffi.specs.Files.{fault_number, script_number, reported, bad_script, IsRefusal, Refuses, HasMoreBoards, HasLoaded};
 
 use crate::board::{VmeBoard, board_struct, kind_number};
 use crate::handle::VmeProcessor;
@@ -139,6 +139,7 @@ pub extern "C" fn vme_machine_load(
 ) -> u8
     ensures opened { result ≡ ok → HasLoaded file.now boards.old boards.new out.old out.new found.new }
     ensures refused { IsRefusal result → Refuses file.now found.old found.new result }
+    ensures few { result ≡ bad_call → HasMoreBoards file.now out.old }
     ensures failed { result ≢ ok → (boards.new ≡ boards.old) × (out.new ≡ out.old) }
     ensures unreported { result ≢ ok → result ≢ bad_script → found.new ≡ found.old }
 {
