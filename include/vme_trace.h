@@ -7,7 +7,8 @@
  *   LIBVME_MACHINE=libvme_trace.so.1 python3 program.py          for pyvme
  *
  * VME_TRACE, or a call of vme_trace_to, names the log of the first machine; the second has this name with .2 behind it, and so on.
- * Beside each log NAME is a configuration file NAME.toml with the boards: `bendrika judge --zero NAME.toml NAME` judges the run.
+ * Beside each log NAME is a configuration file NAME.toml with the boards, a copy of the file where vme_machine_load has opened the machine:
+ * `bendrika judge --zero NAME.toml NAME` judges the run.
  *
  * A log has a line for each datum of a transfer, two for a read-modify-write, and a line for each access by a local port that moved
  * bytes, two for a modify. A line begins with the nanoseconds since the machine was opened. Lines stand in the order of the events:
