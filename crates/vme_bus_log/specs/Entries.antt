@@ -42,7 +42,8 @@ levels_in text =
 
 -- the word of an answer: whether it is DTACK*
 abbrev pub answer_word : List ℕ → Option Bool
-answer_word word = if bytes_eq word (codes "dtack") then Some true else (if bytes_eq word (codes "berr") then Some false else None)
+answer_word word =
+    if bytes_eq word (codes "dtack") then Some true else (if bytes_eq word (codes "berr") then Some false else None)
 
 -- a slot, 1 to 21
 abbrev pub as_slot : ℕ × List ℕ → Option (ℕ × List ℕ)
@@ -67,7 +68,13 @@ abbrev pub answer_in : List ℕ → Option Answer
 answer_in text =
     option_and_then (λ lines.
     option_and_then (λ answer.
-    option_map (λ slot. record { lines = lines.0.0; idle = lines.0.1; is_wide = lines.0.2; is_acknowledged = answer.0; slot = slot })
+    option_map (λ slot. record {
+      lines = lines.0.0;
+      idle = lines.0.1;
+      is_wide = lines.0.2;
+      is_acknowledged = answer.0;
+      slot = slot;
+    })
     (holder_by answer.1 (next_word answer.1))) (option_and_then (reads answer_word) (next_word lines.1)))
     (data_in (codes "data=") text)
 

@@ -1,3 +1,4 @@
 pub mod Words
 pub mod Fields
 pub mod Entries
+pub mod Texts
