@@ -1,7 +1,7 @@
 -- Which device made a judgement end.
-use Rattle.std.specs.Prelude.{Bool, true, false, Result, Ok, Err}
+use Rattle.std.specs.Prelude.{Bool, true, false, Result, Err}
 use Rattle.vme_judge.specs.declared.fault.JudgeFault.{JudgeFault}
-use Rattle.vme_judge.specs.declared.fault.JudgeFault.TheVariants.{Read, Write, Memory, TooLong}
+use Rattle.vme_judge.specs.declared.fault.JudgeFault.TheVariants.{Read, Write}
 
 -- whether a judgement ended with a failure of the reader
 abbrev pub is_read_end : {T : Type 0} → Result T JudgeFault → Bool

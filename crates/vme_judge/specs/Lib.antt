@@ -1,2 +1,5 @@
 pub mod Faults
 pub mod Legal
+pub mod Standing
+pub mod Samples
+pub mod Logs

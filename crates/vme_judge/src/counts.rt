@@ -1,4 +1,5 @@
 //! What was seen of a trace.
+ghost use Rattle.std.specs.Prelude.{◌≡◌, ◌+◌, ◌-◌, ◌^◌, min};
 
 /// What was seen of a trace. Counts stop at their greatest number.
 #[derive(Clone, Copy, Debug, PartialEq, Eq)]
@@ -25,6 +26,8 @@ impl Counts {
 }
 
 /// Adds one to a count.
-pub(crate) fn count(number: &mut u64) {
+pub(crate) fn count(number: &mut u64)
+    ensures { number.new ≡ min (number.old + 1) (2 ^ 64 - 1) }
+{
     *number = number.saturating_add(1);
 }

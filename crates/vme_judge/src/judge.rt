@@ -1,7 +1,11 @@
 //! The judgement of a trace, sample by sample.
-ghost use Rattle.std.specs.Prelude.{◌≡◌, Some, IfOk, IfSome, IsTrue};
+ghost use Rattle.std.specs.Prelude.{◌≡◌, ◌==◌, false, Some, None, IfOk, IfSome, IfNone, IsSome, IsTrue, IsFalse, is_some};
+ghost use Rattle.std.specs.List.{position};
+ghost use Rattle.std.specs.Option.{option_and_then};
 ghost use Rattle.vme_protocol.specs.Watching.{shown, next_watch};
 ghost use Rattle.vme_judge.specs.Legal.{accepts, is_legal, answers_after};
+ghost use Rattle.vme_judge.specs.Logs.{access_taken, known_at};
+ghost use Rattle.vme_judge.specs.Standing.{begun, judged_after, has_counted, sample_taken, standing, KeepsTask, KeepsCourse};
 
 use crate::boards::Board;
 use crate::counts::{Counts, count};
@@ -148,6 +152,32 @@ impl<'a> Judge<'a> {
         spot: Spot,
         undefined: Option<&'static str>,
     ) -> Result<bool, AllocError>
+        ensures standing { IfOk result (λ _.
+            standing self.new ≡ option_and_then (sample_taken sample.now) (standing self.old)) }
+        ensures legal { IfOk result (λ legal. IsSome (standing self.old) → legal ≡ is_some (standing self.new)) }
+        ensures task { IfOk result (λ _. KeepsTask self.old self.new) }
+    {
+        self.step(sample, spot, undefined)
+    }
+
+    /// Takes the next sample.
+    fn step(
+        &mut self,
+        sample: &Sample,
+        spot: Spot,
+        undefined: Option<&'static str>,
+    ) -> Result<bool, AllocError>
+        ensures task { IfOk result (λ _. KeepsTask self.old self.new) }
+        ensures finding { IfOk result (λ legal. IsTrue legal → self.new.finding ≡ self.old.finding) }
+        ensures found { IfOk result (λ legal. IsFalse legal → IsSome self.new.finding) }
+        ensures begins { IfOk result (λ _. self.old.found ≡ 0 →
+            IfNone self.old.watch (self.new.watch ≡ begun self.old.scope sample.now)) }
+        ensures knows { IfOk result (λ _. self.old.found ≡ 0 →
+            IfNone self.old.watch (self.new.answers ≡ self.old.answers)) }
+        ensures waits { IfOk result (λ _. IfNone self.old.watch
+            (has_counted self.new.counts ≡ has_counted self.old.counts)) }
+        ensures counts { IfOk result (λ legal. IsTrue legal → IfSome self.old.watch (λ w.
+            has_counted self.new.counts ≡ judged_after (has_counted self.old.counts) (shown w sample.now))) }
         ensures legal { IfOk result (λ legal. legal ≡ is_legal self.old.watch self.old.answers sample.now) }
         ensures watch { IfOk result (λ legal. IsTrue legal →
             IfSome self.old.watch (λ w. self.new.watch ≡ Some (next_watch w sample.now))) }
@@ -173,13 +203,35 @@ impl<'a> Judge<'a> {
             }
         };
         self.opens(&before, sample);
-        if let Some(datum) = datum
-            && !self.datum(&datum, spot, &before, sample)?
-        {
+        let Some(datum) = datum else {
+            self.closes(&before, sample);
+            return Ok(true);
+        };
+        if !self.datum(&datum, spot, &before, sample)? {
             return Ok(false);
         }
         self.closes(&before, sample);
         Ok(true)
+    }
+
+    /// Counts a datum that is not judged.
+    #[tactic(auto, unfolding(crate::specs::Standing::standing))]
+    pub(crate) fn skip(&mut self)
+        ensures standing { standing self.new ≡ standing self.old }
+        ensures task { KeepsTask self.old self.new }
+    {
+        count(&mut self.counts.skipped);
+    }
+
+    /// Forgets at which time AS* fell, which the trace does not show.
+    #[tactic(auto, unfolding(crate::specs::Standing::standing))]
+    pub(crate) fn forget_start(&mut self)
+        ensures standing { standing self.new ≡ standing self.old }
+        ensures task { KeepsTask self.old self.new }
+    {
+        if let Some(transfer) = self.transfer.as_mut() {
+            transfer.since = None;
+        }
     }
 
     /// Keeps the sample at which the trace is illegal.
@@ -189,7 +241,11 @@ impl<'a> Judge<'a> {
         broken: Broken,
         samples: Option<(Sample, Sample)>,
         undefined: Option<&'static str>,
-    ) {
+    )
+        ensures found { IsSome self.new.finding }
+        ensures task { KeepsTask self.old self.new }
+        ensures counts { self.new.counts ≡ self.old.counts }
+    {
         self.finding = Some(Finding {
             line: spot.line,
             time: spot.time,
@@ -202,8 +258,9 @@ impl<'a> Judge<'a> {
 
     /// Notes that a transfer or a tenure begins at a sample.
     fn opens(&mut self, before: &Sample, sample: &Sample)
-        ensures watch { self.new.watch ≡ self.old.watch }
-        ensures answers { self.new.answers ≡ self.old.answers }
+        ensures course { KeepsCourse self.old self.new }
+        ensures task { KeepsTask self.old self.new }
+        ensures counts { has_counted self.new.counts ≡ has_counted self.old.counts }
     {
         if before.address_strobe && !sample.address_strobe {
             self.transfer = Some(OpenTransfer::opened(sample));
@@ -218,8 +275,9 @@ impl<'a> Judge<'a> {
 
     /// Notes that a transfer ends at a sample.
     fn closes(&mut self, before: &Sample, sample: &Sample)
-        ensures watch { self.new.watch ≡ self.old.watch }
-        ensures answers { self.new.answers ≡ self.old.answers }
+        ensures course { KeepsCourse self.old self.new }
+        ensures task { KeepsTask self.old self.new }
+        ensures counts { has_counted self.new.counts ≡ has_counted self.old.counts }
     {
         if !before.address_strobe && sample.address_strobe {
             self.transfer = None;
@@ -237,6 +295,10 @@ impl<'a> Judge<'a> {
         ensures legal { IfOk result (λ legal. legal ≡ accepts self.old.answers (Some datum.now)) }
         ensures watch { IfOk result (λ legal. IsTrue legal → self.new.watch ≡ self.old.watch) }
         ensures answers { IfOk result (λ legal. IsTrue legal → self.new.answers ≡ answers_after self.old.answers (Some datum.now)) }
+        ensures task { IfOk result (λ _. KeepsTask self.old self.new) }
+        ensures finding { IfOk result (λ legal. IsTrue legal → self.new.finding ≡ self.old.finding) }
+        ensures found { IfOk result (λ legal. IsFalse legal → IsSome self.new.finding) }
+        ensures counts { IfOk result (λ _. IsTrue (has_counted self.new.counts)) }
     {
         count(&mut self.counts.data);
         if let Some(transfer) = self.transfer.as_mut() {
@@ -259,12 +321,21 @@ impl<'a> Judge<'a> {
         let slot = self.slot_of(&wrong);
         let broken = Broken::Answer(wrong, Asked::Datum(*datum), slot);
         self.find(spot, broken, Some((*before, *sample)), None);
+        self.forget_transfer();
+        self.begin_after(sample);
+        Ok(false)
+    }
+
+    /// Forgets the bytes of the transfer in which an answer is wrong.
+    fn forget_transfer(&mut self)
+        ensures task { KeepsTask self.old self.new }
+        ensures finding { self.new.finding ≡ self.old.finding }
+        ensures counts { self.new.counts ≡ self.old.counts }
+    {
         if let Some(watch) = &self.watch {
             let transfer = watch.transfer;
             self.forget(&transfer, false);
         }
-        self.begin_after(sample);
-        Ok(false)
     }
 
     /// The slot of the board that answers wrongly, if it is a board.
@@ -286,6 +357,33 @@ impl<'a> Judge<'a> {
         }
     }
 
+    /// Prints the line of an access, if the bus log is printed.
+    fn print_access(&mut self, slot: u8, access: &Local, spot: Spot) -> Result<(), AllocError>
+        ensures course { KeepsCourse self.old self.new }
+        ensures task { KeepsTask self.old self.new }
+        ensures counts { self.new.counts ≡ self.old.counts }
+    {
+        if !self.options.log {
+            return Ok(());
+        }
+        let line = LogAccess {
+            time: spot.time,
+            slot,
+            is_write: access.write,
+            offset: access.offset,
+            len: access.len,
+            bytes: access.data,
+        };
+        print_access(&line, &mut self.pending)
+    }
+
+    /// Returns the index of the board in a slot.
+    fn board_in(&self, slot: u8) -> Option<usize>
+        ensures { result ≡ position (λ board. board.slot == slot) self.now.boards.now }
+    {
+        self.boards.iter().position(|board| board.slot == slot)
+    }
+
     /// Takes an access by the local port in a slot, and returns whether its answer is legal.
     ///
     /// # Errors
@@ -296,20 +394,35 @@ impl<'a> Judge<'a> {
         slot: u8,
         access: &Local,
         spot: Spot,
-    ) -> Result<bool, AllocError> {
+    ) -> Result<bool, AllocError>
+        ensures standing { IfOk result (λ _.
+            standing self.new ≡ option_and_then (access_taken slot access.now) (standing self.old)) }
+        ensures legal { IfOk result (λ legal. IsSome (standing self.old) → legal ≡ is_some (standing self.new)) }
+        ensures task { IfOk result (λ _. KeepsTask self.old self.new) }
+    {
+        let board = self.board_in(slot);
+        self.access_at(board, slot, access, spot)
+    }
+
+    /// Takes an access of a board by its index.
+    fn access_at(
+        &mut self,
+        board: Option<usize>,
+        slot: u8,
+        access: &Local,
+        spot: Spot,
+    ) -> Result<bool, AllocError>
+        ensures task { IfOk result (λ _. KeepsTask self.old self.new) }
+        ensures watch { IfOk result (λ legal. IsTrue legal → self.new.watch ≡ self.old.watch) }
+        ensures counts { IfOk result (λ _. IsTrue (has_counted self.new.counts)) }
+        ensures finding { IfOk result (λ legal. IsTrue legal → self.new.finding ≡ self.old.finding) }
+        ensures found { IfOk result (λ legal. IsFalse legal → IsSome self.new.finding) }
+        ensures known { IfOk result (λ legal. IsTrue legal → known_at access.now board self.old.answers ≡ Some self.new.answers) }
+        ensures wrong { IfOk result (λ legal. IsFalse legal → known_at access.now board self.old.answers ≡ None) }
+    {
         count(&mut self.counts.accesses);
-        if self.options.log {
-            let line = LogAccess {
-                time: spot.time,
-                slot,
-                is_write: access.write,
-                offset: access.offset,
-                len: access.len,
-                bytes: access.data,
-            };
-            print_access(&line, &mut self.pending)?;
-        }
-        let Some(board) = self.boards.iter().position(|board| board.slot == slot) else {
+        self.print_access(slot, access, spot)?;
+        let Some(board) = board else {
             return Ok(true);
         };
         let Some(answers) = self.answers.as_mut() else {

@@ -1,4 +1,11 @@
 //! A bus log, judged: each datum as the samples of a handshake that shows it.
+ghost use Rattle.std.specs.Prelude.{◌≡◌, ◌≢◌, [], ◌∷◌, ◌++◌, true, false, Some, None, not, IfOk, IfSome, IsSome, is_some};
+ghost use Rattle.std.specs.Option.{option_and_then};
+ghost use Rattle.vme_judge.specs.declared.log.Taken.TheVariants.{Legal};
+ghost use Rattle.vme_judge.specs.Logs.{access_taken, datum_taken, is_broken, is_next, local_of, shown_by, so_far};
+ghost use Rattle.vme_judge.specs.Samples.{address_lines, datum_samples, driver_bit, handshake_samples, lines_of, opening_samples, quiet, with_data};
+ghost use Rattle.vme_judge.specs.Standing.{samples_taken, standing, IsOnce, KeepsTask};
+
 use crate::judge::{Judge, Spot};
 use std::alloc::AllocError;
 use vme_bus_log::{LogAccess, LogDatum};
@@ -73,33 +80,64 @@ pub(crate) fn lanes_of(datum: &Datum) -> u64 {
     used.wrapping_shl(8 * after.min(7))
 }
 
+/// The bit of the slot that drives BBSY*, if it is known.
+fn driver_bit(slot: Option<u8>) -> u32
+    ensures { result ≡ driver_bit slot }
+{
+    match slot {
+        None | Some(0) => 0,
+        Some(slot) => 1u32.wrapping_shl(u32::from(slot - 1)),
+    }
+}
+
+/// A31 to A01, and LWORD* below them.
+fn address_lines(datum: &LogDatum) -> u64
+    ensures { result ≡ address_lines datum.now }
+{
+    let a01 = if datum.a01 { 2 } else { 0 };
+    let lword = if datum.lword { 1 } else { 0 };
+    u64::from(datum.address) | a01 | lword
+}
+
+/// The address lines above D31 to D00.
+fn lines_of(datum: &LogDatum) -> u64
+    ensures { result ≡ lines_of datum.now }
+{
+    address_lines(datum).wrapping_shl(32) | datum.lines & 0xffff_ffff
+}
+
 /// The sample of a datum's lines with no strobe and no answer, as AS* is.
-fn quiet(datum: &LogDatum, address_strobe: bool) -> Sample {
-    let address = u64::from(datum.address) | u64::from(datum.a01) << 1;
-    let high = address | u64::from(datum.lword);
-    let slot = datum.slot.unwrap_or(0);
-    let drivers = if slot == 0 {
-        0
-    } else {
-        1u32.wrapping_shl(u32::from(slot - 1))
-    };
+#[tactic(auto, unfolding(crate::specs::Samples::quiet))]
+fn quiet(datum: &LogDatum, address_strobe: bool) -> Sample
+    ensures { result ≡ quiet datum.now address_strobe }
+{
+    let drivers = driver_bit(datum.slot);
     Sample {
         time: datum.time.unwrap_or(0),
         address_strobe,
+        ds1: true,
+        ds0: true,
+        dtack: true,
+        berr: true,
+        iack: true,
+        busy: drivers == 0,
+        undefined: false,
         write: datum.write,
         write_undefined: false,
         am: datum.am,
         am_undefined: false,
-        lines: high << 32 | datum.lines & 0xffff_ffff,
+        lines: lines_of(datum),
         lines_undefined: datum.idle & 0xffff_ffff,
         drivers,
-        busy: drivers == 0,
-        ..Sample::rest()
+        requests: 0,
+        grants: 0,
     }
 }
 
 /// The sample of a datum's lines while its address lines carry data, if it has eight bytes.
-fn with_data(datum: &LogDatum, sample: Sample) -> Sample {
+fn with_data(datum: &LogDatum, sample: Sample) -> Sample
+    ensures { result ≡ with_data datum.now sample }
+{
     if !datum.is_wide {
         return sample;
     }
@@ -108,6 +146,19 @@ fn with_data(datum: &LogDatum, sample: Sample) -> Sample {
         lines_undefined: datum.idle,
         ..sample
     }
+}
+
+/// Why a datum does not go on from the one before it, if it does not.
+fn break_of(last: &LogDatum, datum: &LogDatum) -> Option<LogBreak>
+    ensures { is_some result ≡ not (is_next last.now datum.now) }
+{
+    if u64::from(datum.index) != u64::from(last.index) + 1 {
+        return Some(LogBreak::Number);
+    }
+    if last.am != datum.am || last.address != datum.address {
+        return Some(LogBreak::Address);
+    }
+    None
 }
 
 impl LogState {
@@ -126,43 +177,81 @@ impl LogState {
         judge: &mut Judge<'_>,
         datum: &LogDatum,
         line: u64,
-    ) -> Result<Taken, AllocError> {
+    ) -> Result<Taken, AllocError>
+        ensures taken { IfOk result (λ taken. IfSome (standing judge.old) (λ m.
+            so_far (is_broken taken) (standing judge.new) self.new.last ≡ datum_taken m self.old.last datum.now)) }
+        ensures stays { IfOk result (λ _. standing judge.old ≡ None → standing judge.new ≡ None) }
+        ensures once { IfOk result (λ taken. IsOnce judge.old → IsOnce judge.new) }
+        ensures ends { IfOk result (λ taken. IsOnce judge.old → taken ≡ Legal → IsSome (standing judge.old) →
+            IsSome (standing judge.new)) }
+    {
         let spot = Spot {
             line,
             time: datum.time,
         };
-        if let Some(last) = self.last
-            && datum.index != 0
-        {
-            if last.index.checked_add(1) != Some(datum.index) {
-                return Ok(Taken::Broken(LogBreak::Number));
-            }
-            if last.am != datum.am || last.address != datum.address {
-                return Ok(Taken::Broken(LogBreak::Address));
-            }
-        } else if datum.index != 0 {
+        if datum.index == 0 {
+            return self.begin(judge, datum, spot);
+        }
+        let Some(last) = self.last else {
             // A log may begin within a transfer, which is not judged.
-            crate::counts::count(&mut judge.counts.skipped);
+            judge.skip();
             return Ok(Taken::Legal);
-        } else if !open(judge, datum, spot)? {
-            return self.illegal(judge);
+        };
+        if let Some(broken) = break_of(&last, datum) {
+            return Ok(Taken::Broken(broken));
         }
+        self.exchange(judge, datum, spot)
+    }
+
+    /// Takes a datum that begins a transfer.
+    fn begin(
+        &mut self,
+        judge: &mut Judge<'_>,
+        datum: &LogDatum,
+        spot: Spot,
+    ) -> Result<Taken, AllocError>
+        ensures taken { IfOk result (λ taken. so_far (is_broken taken) (standing judge.new) self.new.last ≡
+            shown_by (Some datum.now) (option_and_then (samples_taken (opening_samples datum.now ++ datum_samples datum.now)) (standing judge.old))) }
+        ensures once { IfOk result (λ taken. IsOnce judge.old → IsOnce judge.new) }
+        ensures ends { IfOk result (λ taken. IsOnce judge.old → taken ≡ Legal → IsSome (standing judge.old) →
+            IsSome (standing judge.new)) }
+    {
+        let is_legal = open(judge, datum, spot)?;
+        if is_legal {
+            return self.exchange(judge, datum, spot);
+        }
+        self.illegal(judge)
+    }
+
+    /// Takes the handshake of a datum.
+    fn exchange(
+        &mut self,
+        judge: &mut Judge<'_>,
+        datum: &LogDatum,
+        spot: Spot,
+    ) -> Result<Taken, AllocError>
+        ensures taken { IfOk result (λ taken. so_far (is_broken taken) (standing judge.new) self.new.last ≡
+            shown_by (Some datum.now) (option_and_then (samples_taken (datum_samples datum.now)) (standing judge.old))) }
+        ensures once { IfOk result (λ taken. IsOnce judge.old → IsOnce judge.new) }
+        ensures ends { IfOk result (λ taken. IsOnce judge.old → taken ≡ Legal → IsSome (standing judge.old) →
+            IsSome (standing judge.new)) }
+    {
         self.last = Some(*datum);
-        let at_rest = quiet(datum, false);
-        if !handshake(
-            judge,
-            datum,
-            with_data(datum, at_rest),
-            spot,
-            datum.is_acknowledged,
-        )? {
-            return self.illegal(judge);
+        let lines = with_data(datum, quiet(datum, false));
+        let is_legal = handshake(judge, datum, lines, spot, datum.is_acknowledged)?;
+        if is_legal {
+            return Ok(Taken::Legal);
         }
-        Ok(Taken::Legal)
+        self.illegal(judge)
     }
 
     /// Takes an illegal datum: if the judgement goes on, the rest of its transfer is left out.
-    fn illegal(&mut self, judge: &mut Judge<'_>) -> Result<Taken, AllocError> {
+    fn illegal(&mut self, judge: &mut Judge<'_>) -> Result<Taken, AllocError>
+        ensures stands { IfOk result (λ taken. standing judge.new ≡ standing judge.old) }
+        ensures whole { IfOk result (λ taken. is_broken taken ≡ false) }
+        ensures once { IfOk result (λ taken. IsOnce judge.old → IsOnce judge.new) }
+        ensures ends { IfOk result (λ taken. IsOnce judge.old → standing judge.old ≡ None → taken ≢ Legal) }
+    {
         self.last = None;
         Ok(if judge.goes_on()? {
             Taken::Legal
@@ -181,7 +270,13 @@ impl LogState {
         judge: &mut Judge<'_>,
         access: &LogAccess,
         line: u64,
-    ) -> Result<Taken, AllocError> {
+    ) -> Result<Taken, AllocError>
+        ensures taken { IfOk result (λ taken. so_far (is_broken taken) (standing judge.new) self.new.last ≡
+            shown_by self.old.last (option_and_then (access_taken access.now.slot (local_of access.now)) (standing judge.old))) }
+        ensures once { IfOk result (λ taken. IsOnce judge.old → IsOnce judge.new) }
+        ensures ends { IfOk result (λ taken. IsOnce judge.old → taken ≡ Legal → IsSome (standing judge.old) →
+            IsSome (standing judge.new)) }
+    {
         let spot = Spot {
             line,
             time: access.time,
@@ -192,39 +287,75 @@ impl LogState {
             len: access.len,
             data: access.bytes,
         };
-        if judge.access(access.slot, &local, spot)? || judge.goes_on()? {
-            Ok(Taken::Legal)
-        } else {
-            Ok(Taken::Illegal)
+        if judge.access(access.slot, &local, spot)? {
+            return Ok(Taken::Legal);
+        }
+        if judge.goes_on()? {
+            return Ok(Taken::Legal);
+        }
+        Ok(Taken::Illegal)
+    }
+}
+
+/// Takes samples, and returns whether all are legal.
+fn take_all(judge: &mut Judge<'_>, samples: &[Sample], spot: Spot) -> Result<bool, AllocError>
+    ensures standing { IfOk result (λ _.
+        standing judge.new ≡ option_and_then (samples_taken samples.now) (standing judge.old)) }
+    ensures legal { IfOk result (λ legal. IsSome (standing judge.old) → legal ≡ is_some (standing judge.new)) }
+    ensures task { IfOk result (λ _. KeepsTask judge.old judge.new) }
+{
+    for sample in samples {
+        let is_legal = judge.take(sample, spot, None)?;
+        if !is_legal {
+            return Ok(false);
         }
     }
+    Ok(true)
 }
 
 /// Ends the transfer before, if there is one, and begins that of a datum.
-fn open(judge: &mut Judge<'_>, datum: &LogDatum, spot: Spot) -> Result<bool, AllocError> {
-    if !judge.take(&quiet(datum, true), spot, None)? {
-        return Ok(false);
-    }
-    if !judge.take(&quiet(datum, false), spot, None)? {
-        return Ok(false);
-    }
-    if let Some(transfer) = judge.transfer.as_mut() {
-        transfer.since = None;
-    }
+fn open(judge: &mut Judge<'_>, datum: &LogDatum, spot: Spot) -> Result<bool, AllocError>
+    ensures standing { IfOk result (λ _.
+        standing judge.new ≡ option_and_then (samples_taken (opening_samples datum.now)) (standing judge.old)) }
+    ensures legal { IfOk result (λ legal. IsSome (standing judge.old) → legal ≡ is_some (standing judge.new)) }
+    ensures task { IfOk result (λ _. KeepsTask judge.old judge.new) }
+{
     if !datum.is_wide {
-        return Ok(true);
+        return fall(judge, datum, spot);
     }
-    handshake(judge, datum, quiet(datum, false), spot, true)
+    let begins = fall(judge, datum, spot)?;
+    if begins {
+        return handshake(judge, datum, quiet(datum, false), spot, true);
+    }
+    Ok(false)
+}
+
+/// AS* falls.
+fn fall(judge: &mut Judge<'_>, datum: &LogDatum, spot: Spot) -> Result<bool, AllocError>
+    ensures standing { IfOk result (λ _. standing judge.new ≡
+        option_and_then (samples_taken (quiet datum.now true ∷ quiet datum.now false ∷ [])) (standing judge.old)) }
+    ensures legal { IfOk result (λ legal. IsSome (standing judge.old) → legal ≡ is_some (standing judge.new)) }
+    ensures task { IfOk result (λ _. KeepsTask judge.old judge.new) }
+{
+    let begins = take_all(judge, &[quiet(datum, true), quiet(datum, false)], spot)?;
+    judge.forget_start();
+    Ok(begins)
 }
 
 /// The strobes fall, the answer falls, the strobes rise, the answer rises.
+#[tactic(auto, unfolding(crate::specs::Samples::handshake_samples))]
 fn handshake(
     judge: &mut Judge<'_>,
     datum: &LogDatum,
     quiet: Sample,
     spot: Spot,
     is_acknowledged: bool,
-) -> Result<bool, AllocError> {
+) -> Result<bool, AllocError>
+    ensures standing { IfOk result (λ _. standing judge.new ≡
+        option_and_then (samples_taken (handshake_samples datum.now quiet is_acknowledged)) (standing judge.old)) }
+    ensures legal { IfOk result (λ legal. IsSome (standing judge.old) → legal ≡ is_some (standing judge.new)) }
+    ensures task { IfOk result (λ _. KeepsTask judge.old judge.new) }
+{
     let strobed = Sample {
         ds1: datum.ds1,
         ds0: datum.ds0,
@@ -240,10 +371,5 @@ fn handshake(
         ds0: true,
         ..answered
     };
-    for sample in [quiet, strobed, answered, released, quiet] {
-        if !judge.take(&sample, spot, None)? {
-            return Ok(false);
-        }
-    }
-    Ok(true)
+    take_all(judge, &[quiet, strobed, answered, released, quiet], spot)
 }

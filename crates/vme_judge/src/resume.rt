@@ -1,4 +1,7 @@
 //! What follows a finding, where the judgement goes on.
+ghost use Rattle.std.specs.Prelude.{◌≡◌, None, IfOk, IsFalse};
+ghost use Rattle.vme_judge.specs.Standing.{begun, has_counted, standing, IsOnce, KeepsTask};
+
 use crate::counts::count;
 use crate::judge::Judge;
 use crate::transfer::bytes_of;
@@ -10,7 +13,14 @@ impl Judge<'_> {
     /// Leaves a sample out, unless the judgement begins with it: at the first one at rest. After a
     /// finding it has to break no rule by itself, and the bytes of transfers that are left out are not
     /// known.
-    pub(crate) fn leave_out(&mut self, sample: &Sample) {
+    pub(crate) fn leave_out(&mut self, sample: &Sample)
+        ensures task { KeepsTask self.old self.new }
+        ensures finding { self.new.finding ≡ self.old.finding }
+        ensures counts { has_counted self.new.counts ≡ has_counted self.old.counts }
+        ensures begins { self.old.found ≡ 0 → self.old.watch ≡ None →
+            self.new.watch ≡ begun self.old.scope sample.now }
+        ensures answers { self.old.found ≡ 0 → self.new.answers ≡ self.old.answers }
+    {
         if sample.is_at_rest() && (self.found == 0 || self.is_lawful(sample)) {
             self.watch = Some(Watch::new(self.scope, *sample));
             count(&mut self.counts.samples);
@@ -29,7 +39,11 @@ impl Judge<'_> {
     }
 
     /// Begins anew with an illegal sample that is at rest, or leaves out what follows up to one.
-    pub(crate) fn begin_after(&mut self, sample: &Sample) {
+    pub(crate) fn begin_after(&mut self, sample: &Sample)
+        ensures task { KeepsTask self.old self.new }
+        ensures finding { self.new.finding ≡ self.old.finding }
+        ensures counts { self.new.counts ≡ self.old.counts }
+    {
         self.transfer = None;
         self.watch = None;
         self.is_under = !sample.address_strobe;
@@ -42,14 +56,24 @@ impl Judge<'_> {
     }
 
     /// Forgets the bytes of the transfer that a sample opens.
-    fn forget_opened(&mut self, sample: &Sample) {
+    fn forget_opened(&mut self, sample: &Sample)
+        ensures task { KeepsTask self.old self.new }
+        ensures finding { self.new.finding ≡ self.old.finding }
+        ensures counts { self.new.counts ≡ self.old.counts }
+        ensures watch { self.new.watch ≡ self.old.watch }
+    {
         let transfer = Transfer::opened(&self.scope, sample);
         let is_vague = sample.am_undefined || sample.lines_undefined & transfer.counted != 0;
         self.forget(&transfer, is_vague);
     }
 
     /// Forgets the bytes that a transfer may write: all, if its code is unknown or its address undefined.
-    pub(crate) fn forget(&mut self, transfer: &Transfer, is_vague: bool) {
+    pub(crate) fn forget(&mut self, transfer: &Transfer, is_vague: bool)
+        ensures task { KeepsTask self.old self.new }
+        ensures finding { self.new.finding ≡ self.old.finding }
+        ensures counts { self.new.counts ≡ self.old.counts }
+        ensures watch { self.new.watch ≡ self.old.watch }
+    {
         let boards = self.boards;
         let Some(answers) = self.answers.as_mut() else {
             return;
@@ -71,7 +95,12 @@ impl Judge<'_> {
     /// # Errors
     ///
     /// An allocation failed.
-    pub(crate) fn goes_on(&mut self) -> Result<bool, AllocError> {
+    #[tactic(auto, unfolding(crate::specs::Standing::standing))]
+    pub(crate) fn goes_on(&mut self) -> Result<bool, AllocError>
+        ensures stands { IfOk result (λ _. standing self.new ≡ standing self.old) }
+        ensures once { IfOk result (λ _. IsOnce self.old → IsOnce self.new) }
+        ensures ends { IfOk result (λ goes_on. IsOnce self.old → standing self.old ≡ None → IsFalse goes_on) }
+    {
         let Some(finding) = self.finding else {
             return Ok(true);
         };
