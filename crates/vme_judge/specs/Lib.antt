@@ -3,3 +3,4 @@ pub mod Legal
 pub mod Standing
 pub mod Samples
 pub mod Logs
+pub mod Runs

@@ -1,7 +1,7 @@
 //! A bus log, judged: each datum as the samples of a handshake that shows it.
 ghost use Rattle.std.specs.Prelude.{◌≡◌, ◌≢◌, [], ◌∷◌, ◌++◌, true, false, Some, None, not, IfOk, IfSome, IsSome, is_some};
 ghost use Rattle.std.specs.Option.{option_and_then};
-ghost use Rattle.vme_judge.specs.declared.log.Taken.TheVariants.{Legal};
+ghost use Rattle.vme_judge.specs.declared.log.Taken.TheVariants.{Illegal, Legal};
 ghost use Rattle.vme_judge.specs.Logs.{access_taken, datum_taken, is_broken, is_next, local_of, shown_by, so_far};
 ghost use Rattle.vme_judge.specs.Samples.{address_lines, datum_samples, driver_bit, handshake_samples, lines_of, opening_samples, quiet, with_data};
 ghost use Rattle.vme_judge.specs.Standing.{samples_taken, standing, IsOnce, KeepsTask};
@@ -181,6 +181,8 @@ impl LogState {
         ensures taken { IfOk result (λ taken. IfSome (standing judge.old) (λ m.
             so_far (is_broken taken) (standing judge.new) self.new.last ≡ datum_taken m self.old.last datum.now)) }
         ensures stays { IfOk result (λ _. standing judge.old ≡ None → standing judge.new ≡ None) }
+        ensures breaks { IfOk result (λ taken. is_broken taken ≡ true → standing judge.new ≡ standing judge.old) }
+        ensures stops { IfOk result (λ taken. taken ≡ Illegal → standing judge.new ≡ None) }
         ensures once { IfOk result (λ taken. IsOnce judge.old → IsOnce judge.new) }
         ensures ends { IfOk result (λ taken. IsOnce judge.old → taken ≡ Legal → IsSome (standing judge.old) →
             IsSome (standing judge.new)) }
@@ -212,6 +214,8 @@ impl LogState {
     ) -> Result<Taken, AllocError>
         ensures taken { IfOk result (λ taken. so_far (is_broken taken) (standing judge.new) self.new.last ≡
             shown_by (Some datum.now) (option_and_then (samples_taken (opening_samples datum.now ++ datum_samples datum.now)) (standing judge.old))) }
+        ensures whole { IfOk result (λ taken. is_broken taken ≡ false) }
+        ensures stops { IfOk result (λ taken. taken ≡ Illegal → standing judge.new ≡ None) }
         ensures once { IfOk result (λ taken. IsOnce judge.old → IsOnce judge.new) }
         ensures ends { IfOk result (λ taken. IsOnce judge.old → taken ≡ Legal → IsSome (standing judge.old) →
             IsSome (standing judge.new)) }
@@ -232,6 +236,8 @@ impl LogState {
     ) -> Result<Taken, AllocError>
         ensures taken { IfOk result (λ taken. so_far (is_broken taken) (standing judge.new) self.new.last ≡
             shown_by (Some datum.now) (option_and_then (samples_taken (datum_samples datum.now)) (standing judge.old))) }
+        ensures whole { IfOk result (λ taken. is_broken taken ≡ false) }
+        ensures stops { IfOk result (λ taken. taken ≡ Illegal → standing judge.new ≡ None) }
         ensures once { IfOk result (λ taken. IsOnce judge.old → IsOnce judge.new) }
         ensures ends { IfOk result (λ taken. IsOnce judge.old → taken ≡ Legal → IsSome (standing judge.old) →
             IsSome (standing judge.new)) }
@@ -249,6 +255,7 @@ impl LogState {
     fn illegal(&mut self, judge: &mut Judge<'_>) -> Result<Taken, AllocError>
         ensures stands { IfOk result (λ taken. standing judge.new ≡ standing judge.old) }
         ensures whole { IfOk result (λ taken. is_broken taken ≡ false) }
+        ensures stops { IfOk result (λ taken. taken ≡ Illegal → standing judge.new ≡ None) }
         ensures once { IfOk result (λ taken. IsOnce judge.old → IsOnce judge.new) }
         ensures ends { IfOk result (λ taken. IsOnce judge.old → standing judge.old ≡ None → taken ≢ Legal) }
     {
@@ -273,6 +280,8 @@ impl LogState {
     ) -> Result<Taken, AllocError>
         ensures taken { IfOk result (λ taken. so_far (is_broken taken) (standing judge.new) self.new.last ≡
             shown_by self.old.last (option_and_then (access_taken access.now.slot (local_of access.now)) (standing judge.old))) }
+        ensures whole { IfOk result (λ taken. is_broken taken ≡ false) }
+        ensures stops { IfOk result (λ taken. taken ≡ Illegal → standing judge.new ≡ None) }
         ensures once { IfOk result (λ taken. IsOnce judge.old → IsOnce judge.new) }
         ensures ends { IfOk result (λ taken. IsOnce judge.old → taken ≡ Legal → IsSome (standing judge.old) →
             IsSome (standing judge.new)) }

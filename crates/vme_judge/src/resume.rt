@@ -98,6 +98,7 @@ impl Judge<'_> {
     #[tactic(auto, unfolding(crate::specs::Standing::standing))]
     pub(crate) fn goes_on(&mut self) -> Result<bool, AllocError>
         ensures stands { IfOk result (λ _. standing self.new ≡ standing self.old) }
+        ensures stops { IfOk result (λ goes_on. IsFalse goes_on → standing self.new ≡ None) }
         ensures once { IfOk result (λ _. IsOnce self.old → IsOnce self.new) }
         ensures ends { IfOk result (λ goes_on. IsOnce self.old → standing self.old ≡ None → IsFalse goes_on) }
     {

@@ -1,4 +1,10 @@
 //! A trace, byte by byte.
+ghost use Rattle.std.specs.Prelude.{◌≡◌, ◌≢◌, ◌||◌, [], ◌∷◌, true, false, Some, None, is_some, IfOk};
+ghost use Rattle.vme_judge.specs.declared.log.Taken.TheVariants.{Legal};
+ghost use Rattle.vme_judge.specs.Logs.{is_broken};
+ghost use Rattle.vme_judge.specs.Standing.{standing};
+ghost use Rattle.vme_judge.specs.Runs.{log_whole, run_so_far, IsGoing, IsJudgedAs, IsOnceRun, IsOver, Judges, KeepsReader, RunsOnce, StaysFound, TakesLine};
+
 use crate::boards::Board;
 use crate::dump::{Ports, set_scope, take_sample};
 use crate::judge::Judge;
@@ -62,51 +68,81 @@ impl<'a> Run<'a> {
     ///
     /// An allocation failed.
     pub(crate) fn push_all(&mut self, bytes: &[u8]) -> Result<bool, AllocError> {
+        match self.kind {
+            Kind::Dump => self.push_dump_all(bytes),
+            Kind::Log => self.push_log_all(bytes),
+            Kind::Unknown => self.push_unknown(bytes),
+        }
+    }
+
+    /// Takes bytes before the form is known: that of the first one that is no blank.
+    fn push_unknown(&mut self, bytes: &[u8]) -> Result<bool, AllocError> {
+        let Some(place) = bytes.iter().position(|byte| !is_space(*byte)) else {
+            return self.push_blanks(bytes);
+        };
+        let (blanks, text) = bytes.split_at(place);
+        if !self.push_blanks(blanks)? {
+            return Ok(false);
+        }
+        if text.first() == Some(&b'$') {
+            self.kind = Kind::Dump;
+            return self.push_dump_all(text);
+        }
+        self.kind = Kind::Log;
+        self.push_log_all(text)
+    }
+
+    /// Takes blanks before the form is known, which are lines of either.
+    fn push_blanks(&mut self, bytes: &[u8]) -> Result<bool, AllocError> {
+        for byte in bytes {
+            // A blank before the first word of a dump says nothing.
+            let _ = self.vcd.push(*byte);
+        }
+        self.push_log_all(bytes)
+    }
+
+    /// Takes bytes of a dump.
+    fn push_dump_all(&mut self, bytes: &[u8]) -> Result<bool, AllocError> {
         let mut rest = bytes;
         // A step takes a byte at least.
         for _step in 0..bytes.len() {
             let [byte, tail @ ..] = rest else {
                 break;
             };
-            if self.kind == Kind::Dump {
-                match self.vcd.push_line(rest) {
-                    Ok(None) => {}
-                    Ok(Some((step, after))) => {
-                        if !self.take_step(step)? {
-                            return Ok(false);
-                        }
-                        rest = after;
-                        continue;
+            match self.vcd.push_line(rest) {
+                Ok(None) => {}
+                Ok(Some((step, after))) => {
+                    if !self.take_step(step)? {
+                        return Ok(false);
                     }
-                    Err(fault) => return self.reject_dump(fault),
+                    rest = after;
+                    continue;
                 }
+                Err(fault) => return self.reject_dump(fault),
             }
             rest = tail;
-            let goes_on = match self.kind {
-                Kind::Dump => self.push_dump(*byte)?,
-                Kind::Log => self.push_log(*byte)?,
-                Kind::Unknown => self.push_first(*byte)?,
-            };
-            if !goes_on {
+            if !self.push_dump(*byte)? {
                 return Ok(false);
             }
         }
         Ok(true)
     }
 
-    /// Takes a byte before the form is known.
-    fn push_first(&mut self, byte: u8) -> Result<bool, AllocError> {
-        match byte {
-            b' ' | b'\t' | b'\r' | b'\n' => Ok(self.push_dump(byte)? && self.push_log(byte)?),
-            b'$' => {
-                self.kind = Kind::Dump;
-                self.push_dump(byte)
-            }
-            _ => {
-                self.kind = Kind::Log;
-                self.push_log(byte)
+    /// Takes bytes of a log.
+    fn push_log_all(&mut self, bytes: &[u8]) -> Result<bool, AllocError>
+        ensures judges { IfOk result (λ _. Judges self.old self.new bytes.now) }
+        ensures stays { IfOk result (λ _. StaysFound self.old self.new) }
+        ensures stops { IfOk result (λ goes_on. goes_on ≡ false → IsOver (run_so_far self.new)) }
+        ensures once { IfOk result (λ goes_on. RunsOnce self.old self.new goes_on) }
+        ensures kind { IfOk result (λ _. self.new.kind ≡ self.old.kind) }
+    {
+        for byte in bytes {
+            let goes_on = self.push_log(*byte)?;
+            if !goes_on {
+                return Ok(false);
             }
         }
+        Ok(true)
     }
 
     /// Takes a byte of a dump.
@@ -144,7 +180,13 @@ impl<'a> Run<'a> {
     }
 
     /// Takes a byte of a log.
-    fn push_log(&mut self, byte: u8) -> Result<bool, AllocError> {
+    fn push_log(&mut self, byte: u8) -> Result<bool, AllocError>
+        ensures judges { IfOk result (λ _. Judges self.old self.new (byte ∷ [])) }
+        ensures stays { IfOk result (λ _. StaysFound self.old self.new) }
+        ensures stops { IfOk result (λ goes_on. goes_on ≡ false → IsOver (run_so_far self.new)) }
+        ensures once { IfOk result (λ goes_on. RunsOnce self.old self.new goes_on) }
+        ensures kind { IfOk result (λ _. self.new.kind ≡ self.old.kind) }
+    {
         let line = self.log.number();
         match self.log.push(byte) {
             Ok(entry) => self.take_entry(&entry, line),
@@ -156,7 +198,11 @@ impl<'a> Run<'a> {
     }
 
     /// Rejects a line of a log.
-    fn reject(&mut self, why: Why, line: u64) {
+    fn reject(&mut self, why: Why, line: u64)
+        ensures rejected { is_some self.new.rejection ≡ true }
+        ensures judge { self.new.judge ≡ self.old.judge }
+        ensures rest { KeepsReader self.old self.new }
+    {
         self.rejection = Some(Rejection {
             why,
             line: Some(line),
@@ -164,18 +210,43 @@ impl<'a> Run<'a> {
     }
 
     /// Takes what a line of a log says.
-    fn take_entry(&mut self, entry: &LogEntry, line: u64) -> Result<bool, AllocError> {
-        let taken = match entry {
-            LogEntry::Nothing => return Ok(true),
-            LogEntry::Datum(datum) => self.state.datum(&mut self.judge, datum, line)?,
-            LogEntry::Access(access) => self.state.access(&mut self.judge, access, line)?,
-        };
+    fn take_entry(&mut self, entry: &LogEntry, line: u64) -> Result<bool, AllocError>
+        ensures line { IfOk result (λ _. TakesLine self.old self.new (Some entry.now)) }
+        ensures stays { IfOk result (λ _. StaysFound self.old self.new) }
+        ensures stops { IfOk result (λ goes_on. goes_on ≡ false → IsOver (run_so_far self.new)) }
+        ensures once { IfOk result (λ goes_on. RunsOnce self.old self.new goes_on) }
+        ensures log { IfOk result (λ _. self.new.log ≡ self.old.log) }
+        ensures kind { IfOk result (λ _. self.new.kind ≡ self.old.kind) }
+    {
+        match entry {
+            LogEntry::Nothing => Ok(true),
+            LogEntry::Datum(datum) => {
+                let taken = self.state.datum(&mut self.judge, datum, line)?;
+                Ok(self.take_taken(taken, line))
+            }
+            LogEntry::Access(access) => {
+                let taken = self.state.access(&mut self.judge, access, line)?;
+                Ok(self.take_taken(taken, line))
+            }
+        }
+    }
+
+    /// Returns whether the judgement goes on after a line, and rejects one that does not go on from
+    /// the line before.
+    fn take_taken(&mut self, taken: Taken, line: u64) -> bool
+        ensures rejected { is_some self.new.rejection ≡ (is_broken taken || is_some self.old.rejection) }
+        ensures kept { is_broken taken ≡ false → self.new.rejection ≡ self.old.rejection }
+        ensures goes { result ≡ true → taken ≡ Legal }
+        ensures stops { result ≡ false → taken ≢ Legal }
+        ensures judge { self.new.judge ≡ self.old.judge }
+        ensures rest { KeepsReader self.old self.new }
+    {
         match taken {
-            Taken::Legal => Ok(true),
-            Taken::Illegal => Ok(false),
+            Taken::Legal => true,
+            Taken::Illegal => false,
             Taken::Broken(broken) => {
                 self.reject(Why::Break(broken), line);
-                Ok(false)
+                false
             }
         }
     }
@@ -188,17 +259,28 @@ impl<'a> Run<'a> {
     pub(crate) fn end(&mut self) -> Result<(), AllocError> {
         match self.kind {
             Kind::Dump => self.end_dump(),
-            Kind::Log => {
-                let line = self.log.number();
-                match self.log.end() {
-                    Ok(entry) => {
-                        self.take_entry(&entry, line)?;
-                    }
-                    Err(fault) => self.reject(Why::Log(fault), line),
-                }
+            Kind::Log => self.end_log(),
+            Kind::Unknown => Ok(()),
+        }
+    }
+
+    /// Ends a log, whose last line may have no line feed.
+    fn end_log(&mut self) -> Result<(), AllocError>
+        ensures judges { IfOk result (λ _.
+            IsJudgedAs (log_whole self.old []) (run_so_far self.new) (standing self.new.judge)) }
+        ensures stays { IfOk result (λ _. StaysFound self.old self.new) }
+        ensures once { IfOk result (λ _. IsOnceRun self.old → IsGoing self.old → IsOnceRun self.new) }
+    {
+        let line = self.log.number();
+        match self.log.end() {
+            Ok(entry) => {
+                self.take_entry(&entry, line)?;
                 Ok(())
             }
-            Kind::Unknown => Ok(()),
+            Err(fault) => {
+                self.reject(Why::Log(fault), line);
+                Ok(())
+            }
         }
     }
 
@@ -220,4 +302,9 @@ impl<'a> Run<'a> {
             }
         }
     }
+}
+
+/// Whether a byte is a blank between the lines of a trace.
+fn is_space(byte: u8) -> bool {
+    matches!(byte, b' ' | b'\t' | b'\r' | b'\n')
 }

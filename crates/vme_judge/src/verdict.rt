@@ -1,4 +1,8 @@
 //! The text of a verdict.
+ghost use Rattle.std.specs.Prelude.{◌≡◌, IfOk};
+ghost use Rattle.vme_judge.specs.Logs.{status_of};
+ghost use Rattle.vme_judge.specs.Runs.{run_so_far};
+
 use crate::dump::slots_of;
 use crate::fault::Status;
 use crate::finding::Finding;
@@ -23,11 +27,33 @@ pub(crate) fn write_end(
     options: &Options<'_>,
     map: &LineMap,
     to: &mut String,
-) -> Result<Status, AllocError> {
+) -> Result<Status, AllocError>
+    ensures { IfOk result (λ status. status ≡ status_of (run_so_far run.now)) }
+{
     let mut text = String::new(alloc);
-    let status = write_text(alloc, run, options, map, &mut text)?;
+    write_text(alloc, run, options, map, &mut text)?;
     write_beside(options, text.as_str(), to)?;
-    Ok(status)
+    Ok(status_of(run))
+}
+
+/// The verdict on what was read: something was found, nothing was judged, or the trace is legal.
+#[tactic(auto, unfolding(crate::specs::Runs::run_so_far, crate::specs::Standing::standing))]
+fn status_of(run: &Run<'_>) -> Status
+    ensures { result ≡ status_of (run_so_far run.now) }
+{
+    if run.rejection.is_some() {
+        return Status::Rejected;
+    }
+    if run.judge.found != 0 {
+        return Status::Illegal;
+    }
+    if run.judge.finding.is_some() {
+        return Status::Illegal;
+    }
+    if run.judge.counts.data == 0 && run.judge.counts.accesses == 0 {
+        return Status::Rejected;
+    }
+    Status::Legal
 }
 
 /// Appends lines, beside a bus log as comments.
@@ -60,12 +86,6 @@ pub(crate) fn write_found(
     write_beside(options, text.as_str(), to)
 }
 
-/// Whether nothing of a trace was judged.
-fn is_empty(run: &Run<'_>) -> bool {
-    let counts = &run.judge.counts;
-    counts.data == 0 && counts.accesses == 0 && run.judge.found == 0
-}
-
 /// Appends the text.
 fn write_text(
     alloc: Global,
@@ -73,30 +93,19 @@ fn write_text(
     options: &Options<'_>,
     map: &LineMap,
     to: &mut String,
-) -> Result<Status, AllocError> {
-    let nothing = Rejection {
-        why: Why::Nothing,
-        line: None,
-    };
-    let rejection = match (&run.rejection, &run.judge.finding) {
-        (Some(rejection), _) => Some(*rejection),
-        (None, None) if is_empty(run) => Some(nothing),
-        _ => None,
-    };
-    if let Some(rejection) = rejection {
-        rejection.write(alloc, options.name, map, options.json, to)?;
-        return Ok(Status::Rejected);
+) -> Result<(), AllocError> {
+    let status = status_of(run);
+    if status == Status::Rejected {
+        let rejection = run.rejection.unwrap_or(Rejection {
+            why: Why::Nothing,
+            line: None,
+        });
+        return rejection.write(alloc, options.name, map, options.json, to);
     }
     if let Some(finding) = &run.judge.finding {
         write_one(alloc, options, finding, to)?;
     }
-    let status = if run.judge.finding.is_some() || run.judge.found != 0 {
-        Status::Illegal
-    } else {
-        Status::Legal
-    };
-    write_rest(alloc, run, options, status, to)?;
-    Ok(status)
+    write_rest(alloc, run, options, status, to)
 }
 
 /// Appends a finding.

@@ -1,0 +1,72 @@
+-- A log that is judged while it is read.
+use Rattle.std.specs.Prelude.{◌≡◌, ℕ, Bool, true, false, ◌==◌, ◌||◌, if◌then◌else◌, ◌⊎◌, List, [], ◌∷◌, ◌++◌, Option, None, is_some, IsSome}
+use Rattle.vme_bus_log.specs.declared.entry.LogEntry.{LogEntry}
+use Rattle.vme_bus_log.specs.Texts.{log_says}
+use Rattle.vme_judge.specs.declared.run.Kind.{Kind}
+use Rattle.vme_judge.specs.declared.run.Kind.TheVariants as kinds
+use Rattle.vme_judge.specs.declared.run.Run.{Run}
+use Rattle.vme_judge.specs.Standing.{Standing, standing, IsOnce}
+use Rattle.vme_judge.specs.Logs.{LogSoFar, Illegal, so_far, log_taken, next_taken}
+
+-- whether a byte is a blank before the first byte of a trace: a space, a tab, a carriage return or a line feed
+abbrev pub is_space : ℕ → Bool
+is_space b = b == 32 || b == 9 || b == 13 || b == 10
+
+-- the form of a trace after a text: it is a dump if its first byte that is no blank is a $, else a log
+abbrev pub form_after : Kind → List ℕ → Kind
+form_after kinds.Dump text = kinds.Dump
+form_after kinds.Log text = kinds.Log
+form_after kinds.Unknown [] = kinds.Unknown
+form_after kinds.Unknown (b ∷ text) =
+    if is_space b then form_after kinds.Unknown text else (if b == 36 then kinds.Dump else kinds.Log)
+
+-- whether a text is a log, as far as it goes
+abbrev pub is_no_dump : Kind → Bool
+is_no_dump kinds.Dump = false
+is_no_dump kinds.Log = true
+is_no_dump kinds.Unknown = true
+
+-- a log as far as a run has judged it
+unfoldable pub run_so_far : Run → LogSoFar
+run_so_far r = so_far (is_some r.rejection) (standing r.judge) r.state.last
+
+-- the whole log, if this text of it is left to read
+abbrev pub log_whole : Run → List ℕ → LogSoFar
+log_whole r rest = log_taken (run_so_far r) (log_says (r.log.line ++ rest))
+
+-- a log is judged as it is, or it is illegal, and something was found: a run may go on after a finding
+abbrev pub IsJudgedAs : LogSoFar → LogSoFar → Option Standing → Type 0
+IsJudgedAs log judged m = (judged ≡ log) ⊎ ((log ≡ Illegal) × (m ≡ None))
+
+-- a log of which no further line is judged
+abbrev pub IsOver : LogSoFar → Type 0
+IsOver log = (lines : List (Option LogEntry)) → log_taken log lines ≡ log
+
+-- a run has judged these bytes of a log
+abbrev pub Judges : Run → Run → List ℕ → Type 0
+Judges old new bytes =
+    (rest : List ℕ) → IsJudgedAs (log_whole old (bytes ++ rest)) (log_whole new rest) (standing new.judge)
+
+-- a run has judged a line of a log
+abbrev pub TakesLine : Run → Run → Option LogEntry → Type 0
+TakesLine old new line = IsJudgedAs (next_taken (run_so_far old) line) (run_so_far new) (standing new.judge)
+
+-- what was found stays found
+abbrev pub StaysFound : Run → Run → Type 0
+StaysFound old new = standing old.judge ≡ None → standing new.judge ≡ None
+
+-- a run that has found and rejected nothing
+abbrev pub IsGoing : Run → Type 0
+IsGoing r = IsSome (standing r.judge) × (r.rejection ≡ None)
+
+-- one finding is asked for, and a run that has found it has rejected nothing
+abbrev pub IsOnceRun : Run → Type 0
+IsOnceRun r = IsOnce r.judge × (standing r.judge ≡ None → r.rejection ≡ None)
+
+-- a run for one finding stays one, and if it goes on, it has found and rejected nothing
+abbrev pub RunsOnce : Run → Run → Bool → Type 0
+RunsOnce old new goes_on = IsOnceRun old → IsGoing old → IsOnceRun new × (goes_on ≡ true → IsGoing new)
+
+-- the reader of lines, the datum before and the form of the trace stay
+abbrev pub KeepsReader : Run → Run → Type 0
+KeepsReader old new = (new.log ≡ old.log) × (new.state ≡ old.state) × (new.kind ≡ old.kind)
