@@ -52,7 +52,7 @@ def orders(counts):
 
 # Files with the numbers of their outcomes and states, and, if it is the same for each outcome, of its turns.
 FILES = {
-    "buffering": (BUFFERING, 3, 13, 8),
+    "buffering": (BUFFERING, 3, 12, 8),
     "rotating": (ROTATING, 3, None, None),
     "waiting": (WAITING, 3, None, None),
     "torn": (TORN, 4, 25, None),
@@ -66,8 +66,8 @@ FILES = {
     "a mailbox, 3 tries": (mailbox(3), 4, 192, None),
     "a mailbox, 300 tries": (mailbox(300), 4, 192, None),
     "a mailbox, 1000000 tries": (mailbox(1_000_000), 4, 192, None),
-    "four counters to 6": (counters(4, 6), 1, 2401, 24),
-    "three counters to 3": (counters(3, 3), 1, 64, 9),
+    "four counters to 6": (counters(4, 6), 1, 25, 24),
+    "three counters to 3": (counters(3, 3), 1, 10, 9),
     "a counter to 255": (counters(1, 255), 1, 256, 255),
     "adders 2 2 2": (adders((2, 2, 2)), orders((2, 2, 2)), None, None),
     "adders 3 2 2": (adders((3, 2, 2)), orders((3, 2, 2)), None, None),
@@ -100,7 +100,7 @@ mem 2 00000000 01000000000000000000000000000000
 
 never 1:2 read 00; 2:2 read 00: holds
 always 2:2 read 01: fails, schedule = [[2, 4], [1, 4]]
-3 outcomes, 13 states
+3 outcomes, 12 states
 """
 NEVER, ALWAYS = "--never", "--always"
 BOTH = [NEVER, "1:2 read 00; 2:2 read 00", ALWAYS, " 2:2 read 01 "]
