@@ -26,3 +26,4 @@ pub use engine::outcomes_engine;
 pub use fault::OutcomesFault;
 pub use kept::Kept;
 pub use laws::{conditions_hold_of_each_outcome, run_texts_have_a_listed_text};
+pub use print::{append_count, append_schedule, append_tries_line};

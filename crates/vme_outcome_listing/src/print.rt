@@ -60,8 +60,12 @@ fn append_cells(all: &[u8], text: &mut Vec<u8>) -> Result<(), AllocError>
 }
 
 /// Appends a schedule as a file states it.
+///
+/// # Errors
+///
+/// An allocation failed.
 #[tactic(auto, unfolding(crate::specs::Schedules::schedule_text))]
-pub(crate) fn append_schedule(schedule: &[(u16, u32)], text: &mut Vec<u8>) -> Result<(), AllocError>
+pub fn append_schedule(schedule: &[(u16, u32)], text: &mut Vec<u8>) -> Result<(), AllocError>
     ensures { OnOk result (text.new.items ≡ text.old.items ++ schedule_text schedule.now) }
 {
     text.extend_from_slice(b"schedule = [")?;
@@ -96,8 +100,12 @@ fn append_pair(pair: &(u16, u32), text: &mut Vec<u8>) -> Result<(), AllocError>
 }
 
 /// Appends the line of a number of tries, if there is one.
+///
+/// # Errors
+///
+/// An allocation failed.
 #[tactic(auto, unfolding(crate::specs::Schedules::tries_line))]
-fn append_tries_line(tries: Option<u32>, text: &mut Vec<u8>) -> Result<(), AllocError>
+pub fn append_tries_line(tries: Option<u32>, text: &mut Vec<u8>) -> Result<(), AllocError>
     ensures { OnOk result (text.new.items ≡ text.old.items ++ tries_line tries) }
 {
     let Some(tries) = tries else {
@@ -218,7 +226,11 @@ fn append_kept_words(some: bool, text: &mut Vec<u8>) -> Result<(), AllocError>
 }
 
 /// Appends a number of things.
-fn append_count(number: usize, thing: &[u8], text: &mut Vec<u8>) -> Result<(), AllocError>
+///
+/// # Errors
+///
+/// An allocation failed.
+pub fn append_count(number: usize, thing: &[u8], text: &mut Vec<u8>) -> Result<(), AllocError>
     ensures { OnOk result (text.new.items ≡ text.old.items ++ number_text number thing.now) }
 {
     print_number(text, number as u64)?;
