@@ -150,7 +150,7 @@ pub no_value : {T E : Type 0} (result : Result T E) → IsErr result → result_
 no_value (Ok value) err = absurd (cc err)
 no_value (Err fault) err = refl
 
--- after the # of its comment a line says the same with one more byte
+-- one more byte after the # of its comment changes nothing that a line says
 comment_tail : (kept : List ℕ) (long : Bool) (byte : ℕ) → IsKept kept long → (tail : List ℕ)
     → line_says ((line_so_far kept long true ++ byte ∷ []) ++ tail) ≡ line_says (line_so_far kept long true ++ tail)
 comment_tail kept false byte is tail =

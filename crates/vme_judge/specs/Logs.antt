@@ -66,7 +66,7 @@ abbrev pub known_by : Result Judged Rule → Option (Option Judged)
 known_by (Ok k) = Some (Some k)
 known_by (Err rule) = None
 
--- the same of a board by its index; without a board in the slot, or if no answers are judged, each access is legal
+-- what is known after an access to the board with an index; with no such board, or if no answers are judged, each is legal
 abbrev pub known_at : Local → Option ℕ → Option Judged → Option (Option Judged)
 known_at a None k = Some k
 known_at a (Some board) None = Some None

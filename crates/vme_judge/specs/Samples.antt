@@ -40,7 +40,7 @@ quiet d address_strobe = record {
   grants = 0;
 }
 
--- the same with eight-byte data on all lines, if the datum has them
+-- a sample with the eight-byte data of a datum on all lines, if the datum has them
 abbrev pub with_data : LogDatum → Sample → Sample
 with_data d s = if d.is_wide then record s { lines = d.lines; lines_undefined = d.idle } else s
 
