@@ -16,8 +16,8 @@ pub(crate) enum Kind {
     Flag,
     /// An option without a value, with this short name too.
     ShortFlag(char),
-    /// An option without a value that excludes the word of this name.
-    ExclusiveFlag(&'static str),
+    /// An option without a value that excludes the words of these names.
+    ExclusiveFlag(&'static [&'static str]),
     /// An option with a text. It may occur more than once.
     Texts,
     /// An option with a text.
@@ -168,7 +168,7 @@ static EXPLAIN: [Word; 3] = [
     Word {
         name: "all",
         value: "",
-        kind: Kind::ExclusiveFlag("WORD"),
+        kind: Kind::ExclusiveFlag(&["WORD"]),
         help: "Print all texts as a table in Markdown",
     },
     JSON,
@@ -206,7 +206,7 @@ static SERVE: [Word; 1] = [Word {
 }];
 
 /// The words of `bendrika outcomes`.
-static OUTCOMES: [Word; 11] = [
+static OUTCOMES: [Word; 12] = [
     FILE,
     Word {
         name: "never",
@@ -237,6 +237,12 @@ static OUTCOMES: [Word; 11] = [
         value: "WHICH",
         kind: Kind::ExclusiveText("json"),
         help: "Print the timing page of one outcome: failing, of the first condition that fails, or a number",
+    },
+    Word {
+        name: "stuck",
+        value: "",
+        kind: Kind::ExclusiveFlag(&["never", "always", "lines", "show", "page"]),
+        help: "List the dead ends instead: from there no turns end a line, however long each wait goes on",
     },
     Word {
         name: "quiet",
@@ -320,7 +326,7 @@ pub(crate) fn forms() -> [Form; 10] {
         Form {
             name: "outcomes",
             about: "List every outcome that some order of turns gives, each with a schedule",
-            end: "Status: 0 listed, 1 a condition fails, 2 wrong words or no configuration, 3 a fault, 4 too many states",
+            end: "Status: 0 listed, 1 a condition fails or there is a dead end, 2 wrong words or no configuration, 3 a fault, 4 too many states",
             words: OUTCOMES.as_slice(),
         },
         Form {

@@ -6,7 +6,7 @@
 //! `bendrika trace` writes the waveforms of its run, `bendrika page` a page with its timing diagrams,
 //! `bendrika split` a file with the accesses of a narrower processor, `bendrika judge` says whether a
 //! recorded trace of a bus is legal, and `bendrika lines` shows the syntax of lines. The exit status
-//! is 0; 1 after errors in an input, if a condition fails or if a trace is illegal; 2 for wrong words,
+//! is 0; 1 after errors in an input, if a condition fails, if there is a dead end or if a trace is illegal; 2 for wrong words,
 //! a file of another command than `check` that is no configuration, or a text that is no trace; 3
 //! after a fault; 4 if there are more states than the limit.
 #![tactic(auto)]
@@ -30,6 +30,8 @@ mod restated;
 mod serve;
 mod split;
 mod status;
+mod stuck;
+mod stuck_json;
 mod trace;
 mod words;
 

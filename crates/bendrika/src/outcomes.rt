@@ -7,6 +7,7 @@ use crate::outcomes_json::{json_limit, json_of};
 use crate::outcomes_limit::{frequent_line, report_limit, report_states};
 use crate::outcomes_page::{Chosen, page_of};
 use crate::status::Status;
+use crate::stuck::ends_listed;
 use clap::ArgMatches;
 use std::alloc::{AllocError, Global};
 use std::io;
@@ -17,7 +18,7 @@ use vme_outcome_listing::{Asked, Condition, Form, Kept, Kind, OutcomesFault, out
 use vme_script::{Config, ConfigFault};
 
 /// The numbers of states at which a search says how far it is, if the words ask for it.
-const STAGES: [usize; 4] = [10_000, 100_000, 1_000_000, 10_000_000];
+pub(crate) const STAGES: [usize; 4] = [10_000, 100_000, 1_000_000, 10_000_000];
 
 /// The conditions that the words state, each with its text.
 #[derive(Drop)]
@@ -118,8 +119,11 @@ fn wrong_page(rt: &HostRuntime) -> Status {
     Status::WrongWords
 }
 
-/// Lists the outcomes of the configuration file that the words name.
+/// Lists the outcomes, or the dead ends, of the configuration file that the words name.
 pub(crate) fn listed(rt: &HostRuntime, words: &ArgMatches<'_>) -> Result<Status, Fault> {
+    if words.get_flag("stuck") {
+        return ends_listed(rt, words);
+    }
     let Some(print) = print_of(words) else {
         return Ok(wrong_page(rt));
     };

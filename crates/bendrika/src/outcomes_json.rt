@@ -211,7 +211,7 @@ impl<'a> Objects<'a> {
 }
 
 /// Returns the first word of a text.
-fn first_word(text: &str) -> &str {
+pub(crate) fn first_word(text: &str) -> &str {
     match text.split_once(' ') {
         Some((word, _rest)) => word,
         None => text,
@@ -219,7 +219,7 @@ fn first_word(text: &str) -> &str {
 }
 
 /// Adds a member whose value is a text without characters that JSON escapes.
-fn push_member(name: &str, value: &str, to: &mut String) -> Result<(), AllocError> {
+pub(crate) fn push_member(name: &str, value: &str, to: &mut String) -> Result<(), AllocError> {
     to.push('"')?;
     to.push_str(name)?;
     to.push_str("\":\"")?;
@@ -249,7 +249,7 @@ fn number_of(part: &str) -> &str {
 }
 
 /// Adds a schedule, without the spaces of TOML.
-fn push_schedule(schedule: &str, to: &mut String) -> Result<(), AllocError> {
+pub(crate) fn push_schedule(schedule: &str, to: &mut String) -> Result<(), AllocError> {
     for c in schedule.chars() {
         if c != ' ' {
             to.push(c)?;

@@ -5,7 +5,7 @@
 pub(crate) enum Status {
     /// The command did what it was asked to, and found no error.
     Done,
-    /// An input has an error, a condition on the outcomes fails, or a trace is illegal.
+    /// An input has an error, a condition on the outcomes fails, there is a dead end, or a trace is illegal.
     Errors,
     /// The words are wrong, the file of another command than `check` is no configuration, or a text
     /// is no trace.

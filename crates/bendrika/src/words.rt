@@ -79,7 +79,13 @@ fn option<'a>(named: Arg<'a>, word: &Word) -> Result<Arg<'a>, AllocError> {
             1..=MOST_BYTES,
         ))),
         Kind::ShortFlag(letter) => Ok(named.short(letter).action(ArgAction::SetTrue)),
-        Kind::ExclusiveFlag(other) => named.action(ArgAction::SetTrue).conflicts_with(other),
+        Kind::ExclusiveFlag(others) => {
+            let mut flag = named.action(ArgAction::SetTrue);
+            for other in others {
+                flag = flag.conflicts_with(other)?;
+            }
+            Ok(flag)
+        }
         Kind::Flag | Kind::Required | Kind::Optional | Kind::OneOrMore | Kind::AnyNumber => {
             Ok(named.action(ArgAction::SetTrue))
         }

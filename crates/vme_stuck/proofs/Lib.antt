@@ -1,0 +1,4 @@
+mod Marks
+mod Ends
+mod Lists
+mod Texts

@@ -1,0 +1,41 @@
+//! The text that `bendrika outcomes --stuck` prints.
+ghost use Rattle.std.specs.Prelude.{IfOk};
+ghost use Rattle.vme_stuck.specs.Texts.{IsStuckText};
+
+use crate::fault::StuckFault;
+use crate::list::list_dead_ends;
+use crate::print::{append_counts, append_ends};
+use std::alloc::Global;
+use vme_script::Config;
+
+/// The text of the dead ends of a configuration.
+#[derive(Drop)]
+pub struct StuckText {
+    /// The lines of each dead end, unless they are left out, and the line of their number.
+    pub text: Vec<u8>,
+    /// The number of dead ends.
+    pub ends: usize,
+}
+
+/// Returns the text of the dead ends of a configuration. With `quiet` it is the last line alone.
+///
+/// # Errors
+///
+/// Those of [`list_dead_ends`](crate::list_dead_ends).
+pub fn stuck_text(
+    alloc: Global,
+    config: &Config,
+    limit: usize,
+    quiet: bool,
+) -> Result<StuckText, StuckFault>
+    ensures { IfOk result (λ found. IsStuckText config.now quiet found.text.items found.ends) }
+{
+    let found = list_dead_ends(alloc, config, limit)?;
+    let ends = found.ends.len();
+    let mut text = Vec::new(alloc);
+    if !quiet {
+        append_ends(config, found.ends.as_slice(), &mut text)?;
+    }
+    append_counts(ends, found.states, &mut text)?;
+    Ok(StuckText { text, ends })
+}
