@@ -20,10 +20,14 @@ wait_text (Put box word) = codes "space in mailbox " ++ decimal box
 wait_text (Take box) = codes "a word in mailbox " ++ decimal box
 wait_text line = codes "the bus"
 
+-- the slot and the number of a line
+abbrev pub number_of : ℕ → ℕ → List ℕ
+number_of slot number = decimal slot ++ (codes ":" ++ decimal number)
+
 -- the line that says what a line of a slot's script waits for, by the number of the line there
 unfoldable pub numbered_wait : ℕ → ℕ → Line → List ℕ
 numbered_wait slot number line =
-    decimal slot ++ (codes ":" ++ (decimal number ++ (codes " waits for " ++ (wait_text line ++ codes "\n"))))
+    number_of slot number ++ (codes " waits for " ++ (wait_text line ++ codes "\n"))
 
 -- that of the next line of a script, if there is one
 abbrev pub next_wait : ℕ → Option ScriptLine → List ℕ

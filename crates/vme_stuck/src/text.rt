@@ -1,12 +1,13 @@
 //! The text that `bendrika outcomes --stuck` prints.
-ghost use Rattle.std.specs.Prelude.{IfOk};
-ghost use Rattle.vme_stuck.specs.Texts.{IsStuckText};
+ghost use Rattle.std.specs.Prelude.{◌≡◌, ◌++◌, IfOk, OnOk};
+ghost use Rattle.vme_stuck.specs.Texts.{ends_text, IsStuckText};
 
 use crate::fault::StuckFault;
 use crate::list::list_dead_ends;
 use crate::print::{append_counts, append_ends};
-use std::alloc::Global;
+use std::alloc::{AllocError, Global};
 use vme_script::Config;
+use vme_states::ListedOutcome;
 
 /// The text of the dead ends of a configuration.
 #[derive(Drop)]
@@ -33,9 +34,22 @@ pub fn stuck_text(
     let found = list_dead_ends(alloc, config, limit)?;
     let ends = found.ends.len();
     let mut text = Vec::new(alloc);
-    if !quiet {
-        append_ends(config, found.ends.as_slice(), &mut text)?;
-    }
+    append_unless_quiet(config, quiet, found.ends.as_slice(), &mut text)?;
     append_counts(ends, found.states, &mut text)?;
     Ok(StuckText { text, ends })
+}
+
+/// Appends dead ends, unless they are left out.
+fn append_unless_quiet(
+    config: &Config,
+    quiet: bool,
+    ends: &[ListedOutcome],
+    text: &mut Vec<u8>,
+) -> Result<(), AllocError>
+    ensures { OnOk result (text.new.items ≡ text.old.items ++ ends_text config.now quiet ends.now) }
+{
+    if quiet {
+        return Ok(());
+    }
+    append_ends(config, ends, text)
 }

@@ -4,7 +4,7 @@ ghost use Rattle.std.specs.Fmt.{decimal};
 ghost use Rattle.vme_grammar.specs.Texts.{hex_text};
 ghost use Rattle.vme_states.specs.BareStates.{BareScript, bare_outcome};
 ghost use Rattle.vme_outcome_listing.specs.Texts.{slots_of};
-ghost use Rattle.vme_stuck.specs.Waits.{place_text, wait_text, numbered_wait, next_wait, waits_text};
+ghost use Rattle.vme_stuck.specs.Waits.{number_of, place_text, wait_text, numbered_wait, next_wait, waits_text};
 
 use std::alloc::AllocError;
 use vme_grammar::{Line, print_hex, print_number};
@@ -60,12 +60,19 @@ fn append_numbered(
 ) -> Result<(), AllocError>
     ensures { OnOk result (text.new.items ≡ text.old.items ++ numbered_wait slot number line.now) }
 {
-    print_number(text, u64::from(slot))?;
-    text.extend_from_slice(b":")?;
-    print_number(text, u64::from(number))?;
+    append_number(slot, number, text)?;
     text.extend_from_slice(b" waits for ")?;
     append_awaited(line, text)?;
     text.extend_from_slice(b"\n")
+}
+
+/// Appends the slot and the number of a line.
+fn append_number(slot: u16, number: u16, text: &mut Vec<u8>) -> Result<(), AllocError>
+    ensures { OnOk result (text.new.items ≡ text.old.items ++ number_of slot number) }
+{
+    print_number(text, u64::from(slot))?;
+    text.extend_from_slice(b":")?;
+    print_number(text, u64::from(number))
 }
 
 /// Appends what a line waits for.
