@@ -16,8 +16,10 @@ pub(crate) enum Kind {
     Flag,
     /// An option without a value, with this short name too.
     ShortFlag(char),
-    /// An option without a value that excludes the words of these names.
-    ExclusiveFlag(&'static [&'static str]),
+    /// An option without a value that excludes the word of this name.
+    ExclusiveFlag(&'static str),
+    /// An option without a value for another list of outcomes: it excludes conditions, `lines`, `show` and `page`.
+    ListFlag,
     /// An option with a text. It may occur more than once.
     Texts,
     /// An option with a text.
@@ -168,7 +170,7 @@ static EXPLAIN: [Word; 3] = [
     Word {
         name: "all",
         value: "",
-        kind: Kind::ExclusiveFlag(&["WORD"]),
+        kind: Kind::ExclusiveFlag("WORD"),
         help: "Print all texts as a table in Markdown",
     },
     JSON,
@@ -241,7 +243,7 @@ static OUTCOMES: [Word; 12] = [
     Word {
         name: "stuck",
         value: "",
-        kind: Kind::ExclusiveFlag(&["never", "always", "lines", "show", "page"]),
+        kind: Kind::ListFlag,
         help: "List the dead ends instead: from there no turns end a line, however long each wait goes on",
     },
     Word {

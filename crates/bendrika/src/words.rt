@@ -79,13 +79,14 @@ fn option<'a>(named: Arg<'a>, word: &Word) -> Result<Arg<'a>, AllocError> {
             1..=MOST_BYTES,
         ))),
         Kind::ShortFlag(letter) => Ok(named.short(letter).action(ArgAction::SetTrue)),
-        Kind::ExclusiveFlag(others) => {
-            let mut flag = named.action(ArgAction::SetTrue);
-            for other in others {
-                flag = flag.conflicts_with(other)?;
-            }
-            Ok(flag)
-        }
+        Kind::ExclusiveFlag(other) => named.action(ArgAction::SetTrue).conflicts_with(other),
+        Kind::ListFlag => named
+            .action(ArgAction::SetTrue)
+            .conflicts_with("never")?
+            .conflicts_with("always")?
+            .conflicts_with("lines")?
+            .conflicts_with("show")?
+            .conflicts_with("page"),
         Kind::Flag | Kind::Required | Kind::Optional | Kind::OneOrMore | Kind::AnyNumber => {
             Ok(named.action(ArgAction::SetTrue))
         }
