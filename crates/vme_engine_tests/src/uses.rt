@@ -9,7 +9,7 @@ use vme_bus_wait::{BusWaiters, WaitState};
 use vme_core::{Core, EventReply};
 use vme_cycle::Request;
 use vme_decode::{AddressMap, Entry};
-use vme_explore::System;
+use vme_explore::{NoParts, System};
 use vme_io::RoomSink;
 use vme_memory::BoardCmd;
 use vme_object::{Counter, Object};
@@ -197,6 +197,8 @@ pub struct Latches;
 
 impl System for Latches {
     type State = (bool, bool);
+
+    type Parts = NoParts;
 
     ghost initial = { λ _. (false, false) };
 

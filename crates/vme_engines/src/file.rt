@@ -38,7 +38,11 @@ pub fn read_config<R: Source>(alloc: Global, reader: &mut R) -> Result<Config, P
 }
 
 /// Parses the configuration that the bytes of a file encode.
-fn parse_config(alloc: Global, input: &[u8]) -> Result<Config, ProgramFault>
+///
+/// # Errors
+///
+/// `Config`: the bytes are not a configuration. `Memory`: an allocation failed.
+pub fn parse_config(alloc: Global, input: &[u8]) -> Result<Config, ProgramFault>
     ensures config { IfOk result (Configures input.now) }
     ensures refused { (fault : ConfigFault) →
         result ≡ Err (ProgramFault.Config fault) → IsRefusedAs input.now fault }

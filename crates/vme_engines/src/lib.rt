@@ -16,7 +16,7 @@ mod words;
 pub use bus::BOARD_SIZE;
 pub use cycles::{INPUT_LIMIT, cycles_engine};
 pub use fault::{ProgramFault, exit_status};
-pub use file::{FILE_LIMIT, read_config};
+pub use file::{FILE_LIMIT, parse_config, read_config};
 pub use input::read_input;
 pub use request::request_of;
 pub use vme_shared::Status;

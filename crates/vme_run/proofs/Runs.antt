@@ -1,7 +1,8 @@
 -- What an engine wrote is the text of a run of the configuration that it read.
-use Rattle.std.proofs.Common.{◌≡◌, ℕ, List, Option, Some, None, IfSome, Result, Ok, Err, OnErr, refl, ap, ◌∙◌, inr}
+use Rattle.std.proofs.Common.{◌≡◌, ℕ, List, [], Option, Some, None, IfSome, Result, Ok, Err, OnErr, refl, ap, ◌∙◌, inl, inr}
 use Rattle.std.specs.Io.KnownBytes.{Appends}
 use Rattle.vme_io.specs.Prefixes.{AppendsPrefix}
+use Rattle.vme_io.proofs.lemmas.Appending.{Appends-none}
 use Rattle.vme_shared.specs.declared.status.Status.{Status}
 use Rattle.vme_report.specs.Reports.{report_text, report_status}
 use Rattle.vme_script.specs.Configurations.{Configuration}
@@ -63,3 +64,30 @@ step_prefix_written None old new end config configures written = tt
 step_prefix_written (Some input) old new (Ok status) config configures written = tt
 step_prefix_written (Some input) old new (Err fault) config configures written =
     inr (run_text config (file_turns config), record { config = config; configures = configures; text_is = refl }, written)
+
+-- of a file whose bytes were read: a text that was written is that of a run
+pub file_text_written : (input : List ℕ) (old new : Option (List ℕ)) (config : Configuration) (report : Report) (status : Status)
+    → Configures input config → IsReportOfOneOrder config report → status ≡ report_status (texts_of_report report)
+    → Appends old new (report_text (texts_of_report report)) → (text : List ℕ) × IsRunText input text status × Appends old new text
+file_text_written input old new config report status configures order status_is written =
+    text_written (Some input) old new config report status configures order status_is written
+
+-- of a file whose bytes were read: a prefix that was written before a fault is that of the text of a run
+pub file_prefix_written : (input : List ℕ) (old new : Option (List ℕ)) (end : Result Status ProgramFault) (config : Configuration)
+    (report : Report) → Configures input config → IsReportOfOneOrder config report
+    → AppendsPrefix old new (report_text (texts_of_report report)) → OnErr end (WritesPrefix (IsSomeRunText input) old new)
+file_prefix_written input old new end config report configures order written =
+    prefix_written (Some input) old new end config report configures order written
+
+-- of a file whose bytes were read: a prefix that was written before a fault is that of the text of its own turns
+pub step_file_prefix_written : (input : List ℕ) (old new : Option (List ℕ)) (end : Result Status ProgramFault) (config : Configuration)
+    → Configures input config → AppendsPrefix old new (run_text config (file_turns config))
+    → OnErr end (WritesPrefix (IsStepText input) old new)
+step_file_prefix_written input old new end config configures written =
+    step_prefix_written (Some input) old new end config configures written
+
+-- before a fault without a write nothing was written
+pub nothing_written : (IsText : List ℕ → Type 0) (old : Option (List ℕ)) (end : Result Status ProgramFault)
+    → OnErr end (WritesPrefix IsText old old)
+nothing_written IsText old (Ok status) = tt
+nothing_written IsText old (Err fault) = inl (record { prefix = []; rest = []; split = refl; appends = Appends-none old })

@@ -1,4 +1,4 @@
--- The texts of runs on one thread and on threads, and the faults of `run_engine`.
+-- The texts of runs on one thread and on threads, and the faults of the engines.
 use Rattle.std.specs.Prelude.{ℕ, ◌≡◌, List}
 use Rattle.vme_shared.specs.declared.status.Status.{Status}
 use Rattle.vme_script.specs.Configurations.{Configuration}
@@ -8,8 +8,8 @@ use Rattle.vme_stepper.specs.Reports.{run_text, run_status}
 use Rattle.vme_threads.specs.declared.report.Report.{Report}
 use Rattle.vme_threads.specs.OneOrder.{IsReportOfOneOrder}
 use Rattle.vme_engines.specs.declared.fault.ProgramFault.{ProgramFault}
-use Rattle.vme_engines.specs.declared.fault.ProgramFault.TheVariants.{Thread, Spent}
-use Rattle.vme_engines.specs.Faults.{IsStepFault}
+use Rattle.vme_engines.specs.declared.fault.ProgramFault.TheVariants.{Write, Thread, Spent}
+use Rattle.vme_engines.specs.Faults.{IsConfigFault, IsStepFault}
 use Rattle.vme_engines.specs.Files.{Configures}
 use Rattle.vme_run.specs.Orders.{IsReportOfState}
 
@@ -40,3 +40,14 @@ abbrev pub IsRunEngineFault : ProgramFault → Type 0
 IsRunEngineFault Thread = Unit {0}
 IsRunEngineFault Spent = Unit {0}
 IsRunEngineFault fault = IsStepFault fault
+
+-- the faults of running the scripts of a file that was read, on one thread, and writing the report
+abbrev pub IsStepFileFault : ProgramFault → Type 0
+IsStepFileFault Write = Unit {0}
+IsStepFileFault fault = IsConfigFault fault
+
+-- the same on threads
+abbrev pub IsRunFileFault : ProgramFault → Type 0
+IsRunFileFault Thread = Unit {0}
+IsRunFileFault Spent = Unit {0}
+IsRunFileFault fault = IsStepFileFault fault

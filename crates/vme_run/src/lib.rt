@@ -14,6 +14,6 @@ pub use laws::{
     a_run_of_threads_is_a_run_of_turns, one_order_has_a_history_of_each_object,
     one_order_is_a_run_of_turns,
 };
-pub use run::run_engine;
-pub use step::step_engine;
+pub use run::{run_engine, run_file};
+pub use step::{step_engine, step_file};
 pub use text::report_text;

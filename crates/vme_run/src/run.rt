@@ -5,13 +5,13 @@ ghost use Rattle.std.specs.Io.KnownBytes.{Appends};
 ghost use Rattle.vme_script.specs.declared.fault.ConfigFault.{ConfigFault};
 ghost use Rattle.vme_engines.specs.Faults.{EndsUnwritten, ReadsWithin, WritesPrefix, is_read_failure, is_write_failure};
 ghost use Rattle.vme_engines.specs.Files.{IsRefusedAs};
-ghost use Rattle.vme_run.specs.RunTexts.{IsRunText, IsSomeRunText, IsRunEngineFault};
+ghost use Rattle.vme_run.specs.RunTexts.{IsRunText, IsSomeRunText, IsRunEngineFault, IsRunFileFault};
 
 use crate::text::report_text;
 use std::alloc::Global;
 use std::sync::Wait;
 use std::thread::Threads;
-use vme_engines::{FILE_LIMIT, ProgramFault, read_config};
+use vme_engines::{FILE_LIMIT, ProgramFault, parse_config, read_config};
 use vme_io::{Sink, Source};
 use vme_shared::Status;
 use vme_threads::{Gate, run_threads};
@@ -74,6 +74,41 @@ pub fn run_engine<T: Threads + Wait + Sync, R: Source, W: Sink>(
     ensures faults { IfErr result IsRunEngineFault }
 {
     let config = read_config(alloc, reader)?;
+    let report = run_threads(rt, alloc, &config, &OpenGate)?;
+    let status = report_text(alloc, &report, writer)?;
+    Ok(status)
+}
+
+/// Runs the scripts of a configuration file whose bytes were read, each on a thread of its own, as
+/// `run_engine` does. The bytes are freed before the run.
+///
+/// Returns `Clean` if every reply is a success, otherwise `Marked`. If the writer has no byte model,
+/// what is written is not stated.
+///
+/// # Errors
+///
+/// `Config`: the bytes are not a configuration. `Write`: the writer failed. `Memory`: an allocation
+/// failed. `Thread`: a thread could not be started. `Spent`: an object has taken as many steps as
+/// can be counted. After a fault, a prefix of a report was written, or nothing.
+pub fn run_file<T: Threads + Wait + Sync, W: Sink>(
+    rt: &T,
+    alloc: Global,
+    file: Vec<u8>,
+    writer: &mut W,
+) -> Result<Status, ProgramFault>
+    requires unmarked { W.is_marked writer.old ≡ false }
+    ensures text { IfOk result (λ status. (text : List ℕ) × IsRunText file.items text status
+        × Appends (W.contents writer.old) (W.contents writer.new) text) }
+    ensures prefix { OnErr result (WritesPrefix (IsSomeRunText file.items)
+        (W.contents writer.old) (W.contents writer.new)) }
+    ensures nothing { EndsUnwritten result → writer.new ≡ writer.old }
+    ensures refused { (fault : ConfigFault) → result ≡ Err (ProgramFault.Config fault) →
+        IsRefusedAs file.items fault }
+    ensures write { W.is_marked writer.new ≡ is_write_failure result }
+    ensures faults { IfErr result IsRunFileFault }
+{
+    let config = parse_config(alloc, file.as_slice())?;
+    drop(file);
     let report = run_threads(rt, alloc, &config, &OpenGate)?;
     let status = report_text(alloc, &report, writer)?;
     Ok(status)

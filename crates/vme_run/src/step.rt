@@ -8,10 +8,10 @@ ghost use Rattle.vme_engines.specs.Faults.{EndsUnwritten, IsStepFault, ReadsWith
 ghost use Rattle.vme_engines.specs.Files.{Configures, IsRefusedAs};
 ghost use Rattle.vme_stepper.specs.Schedules.{file_turns};
 ghost use Rattle.vme_stepper.specs.Reports.{run_text, run_status};
-ghost use Rattle.vme_run.specs.RunTexts.{IsStepText};
+ghost use Rattle.vme_run.specs.RunTexts.{IsStepText, IsStepFileFault};
 
 use std::alloc::Global;
-use vme_engines::{FILE_LIMIT, ProgramFault, read_config};
+use vme_engines::{FILE_LIMIT, ProgramFault, parse_config, read_config};
 use vme_io::{Sink, Source};
 use vme_shared::Status;
 use vme_stepper::run_configured;
@@ -63,6 +63,41 @@ pub fn step_engine<R: Source, W: Sink>(
     ensures faults { IfErr result IsStepFault }
 {
     let config = read_config(alloc, reader)?;
+    let status = run_configured(alloc, &config, writer)?;
+    Ok(status)
+}
+
+/// Runs the scripts of a configuration file whose bytes were read, as `step_engine` does. The bytes
+/// are freed before the run.
+///
+/// Returns `Clean` if every reply is a success, otherwise `Marked`. If the writer has no byte model,
+/// what is written is not stated.
+///
+/// # Errors
+///
+/// `Config`: the bytes are not a configuration. `Write`: the writer failed. `Memory`: an allocation
+/// failed. After a fault, a prefix of the report was written, or nothing.
+pub fn step_file<W: Sink>(
+    alloc: Global,
+    file: Vec<u8>,
+    writer: &mut W,
+) -> Result<Status, ProgramFault>
+    requires unmarked { W.is_marked writer.old ≡ false }
+    ensures read { IfOk result (λ _. (config : Configuration) × Configures file.items config) }
+    ensures text { (config : Configuration) → Configures file.items config → OnOk result (Appends
+        (W.contents writer.old) (W.contents writer.new) (run_text config (file_turns config))) }
+    ensures prefix { OnErr result (WritesPrefix (IsStepText file.items)
+        (W.contents writer.old) (W.contents writer.new)) }
+    ensures status { (config : Configuration) → Configures file.items config →
+        IfOk result (λ status. status ≡ run_status config (file_turns config)) }
+    ensures nothing { EndsUnwritten result → writer.new ≡ writer.old }
+    ensures refused { (fault : ConfigFault) → result ≡ Err (ProgramFault.Config fault) →
+        IsRefusedAs file.items fault }
+    ensures write { W.is_marked writer.new ≡ is_write_failure result }
+    ensures faults { IfErr result IsStepFileFault }
+{
+    let config = parse_config(alloc, file.as_slice())?;
+    drop(file);
     let status = run_configured(alloc, &config, writer)?;
     Ok(status)
 }

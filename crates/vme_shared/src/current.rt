@@ -29,7 +29,7 @@ impl CurrentTransfer<'_> {
     /// Gives the current transfer the reply to its event, or `None` at its first call. If this ends
     /// the transfer, returns what follows the transfer.
     #[tactic(auto, using(crate::proofs::lemmas::Stands::by_outcome))]
-    pub(crate) fn advance(
+    pub fn advance(
         &mut self,
         request: SharedRequest,
         reply: Option<&EventReply>,

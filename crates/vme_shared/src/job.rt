@@ -12,9 +12,13 @@ use vme_cycle::CycleFault;
 use vme_decode::AddressMap;
 use vme_master::Task;
 
-/// A slot's request to a lock or a mailbox, with the level on which the slot requests the bus.
+/// A slot's request to a lock or a mailbox, with the level on which the slot requests the bus and the
+/// map of the boards.
+///
+/// It makes the transfers of the request, one after another. `SharedTask` has a job and the current
+/// transfer. Who owns the map has the current transfer alone, and makes a job for each step.
 #[derive(Debug, Drop)]
-pub(crate) struct Job<'a> {
+pub struct Job<'a> {
     map: &'a AddressMap,
     slot: u16,
     level: u8,
@@ -35,7 +39,8 @@ impl<'a> Model for Job<'a> {
 impl<'a> Job<'a> {
     ghost use Rattle.vme_shared.specs.Mailboxes.{IsWellFormed};
 
-    pub(crate) fn new(map: &'a AddressMap, slot: u16, level: u8, request: SharedRequest) -> Job<'a>
+    /// Returns the job of a slot's request. The slot requests the bus on `level`.
+    pub fn new(map: &'a AddressMap, slot: u16, level: u8, request: SharedRequest) -> Job<'a>
         requires { IsWellFormed request }
         ensures { result ≡ record { map = map.now; slot = slot; level = level; request = request } }
     {
@@ -47,7 +52,8 @@ impl<'a> Job<'a> {
         }
     }
 
-    pub(crate) fn request(&self) -> SharedRequest
+    /// Returns the request.
+    pub fn request(&self) -> SharedRequest
         ensures value { result ≡ self.now.request }
         ensures job { IsWellFormed result }
     {
@@ -56,7 +62,7 @@ impl<'a> Job<'a> {
 
     /// Returns the first transfer before its first call.
     #[tactic(auto, using(crate::proofs::Stages::first_kept))]
-    pub(crate) fn first_transfer(&self) -> CurrentTransfer<'a>
+    pub fn first_transfer<'t>(&self) -> CurrentTransfer<'t>
         ensures current { result ≡ first_transfer self.now }
         ensures kept { IsKept self.now result }
     {
@@ -70,7 +76,7 @@ impl<'a> Job<'a> {
     /// Puts what follows a transfer in its place: the next one, with its first call made, or the
     /// end.
     #[tactic(auto, using(crate::proofs::Stages::stepped_kept))]
-    pub(crate) fn step(&self, current: &mut CurrentTransfer<'a>, step: StageResult)
+    pub fn step<'t>(&self, current: &mut CurrentTransfer<'t>, step: StageResult)
         ensures current { current.new ≡ current_stepped self.now step }
         ensures kept { IsKept self.now current.new }
         ensures begun { current_to_do current.new ≢ NotStarted }
@@ -83,7 +89,7 @@ impl<'a> Job<'a> {
 
     /// Returns the transfer of a stage after its first call.
     #[tactic(auto, using(crate::proofs::Stages::begun_kept))]
-    fn called(&self, stage: Stage) -> CurrentTransfer<'a>
+    fn called<'t>(&self, stage: Stage) -> CurrentTransfer<'t>
         ensures current { result ≡ stage_called stage (stage_job self.now stage) }
         ensures kept { IsKept self.now result }
         ensures begun { current_to_do result ≢ NotStarted }
@@ -98,7 +104,7 @@ impl<'a> Job<'a> {
     }
 
     /// Returns the bus task of a stage.
-    fn task(&self, stage: Stage) -> Result<Task<'a>, CycleFault>
+    fn task<'t>(&self, stage: Stage) -> Result<Task<'t>, CycleFault>
         ensures { result ≡ stage_task (stage_job self.now stage) }
     {
         Task::start_owned(

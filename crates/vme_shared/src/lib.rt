@@ -23,6 +23,8 @@ mod task;
 mod todo;
 mod word;
 
+pub use current::CurrentTransfer;
+pub use job::Job;
 pub use laws::{
     shared_tasks_are_refused_at_the_start, shared_tasks_call_boards_of_the_map,
     shared_tasks_go_by_the_table, shared_tasks_keep_their_tenure,
@@ -34,6 +36,7 @@ pub use outcome::SharedOutcome;
 pub use put::PutTask;
 pub use reply::LineReply;
 pub use request::SharedRequest;
+pub use stage::{Stage, StageResult};
 pub use status::Status;
 pub use take::TakeTask;
 pub use task::SharedTask;

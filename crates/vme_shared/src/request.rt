@@ -29,7 +29,7 @@ pub enum SharedRequest {
 impl SharedRequest {
     /// Returns the refusal of the transfer of a lock or an unlock. For a put or a take, returns the
     /// refusal of the lock's transfer, or else that of a read of the mailbox's last word.
-    pub(crate) fn check(self) -> Result<(), CycleFault>
+    pub fn check(self) -> Result<(), CycleFault>
         requires { IsWellFormed self }
         ensures { refusal_in result ≡ shared_refusal self }
     {
