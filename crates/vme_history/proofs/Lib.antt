@@ -4,3 +4,5 @@ pub mod Mailboxes
 pub mod Replies
 pub mod Logs
 pub mod Verdicts
+pub mod Places
+pub mod Cuts

@@ -1,8 +1,11 @@
 //! The engine of `bendrika judge --history`.
+ghost use Rattle.std.specs.Prelude.{IfOk};
+ghost use Rattle.vme_history.specs.Verdicts.{IsVerdictOf};
+
 use crate::fault::{HistoryFault, LogFault};
 use crate::judged::judge_log;
 use crate::read::read_log;
-use crate::text::{Form, events_of, write_nothing, write_problem, write_verdict};
+use crate::text::{Form, write_nothing, write_problem, write_verdict};
 use std::alloc::Global;
 use vme_script::Config;
 
@@ -29,7 +32,7 @@ pub enum Verdict {
 }
 
 /// Judges the text of a log over the boards of a configuration, and appends the text of the verdict.
-/// The verdict is that of `judge_log` for what `read_log` reads; no clause states that.
+/// No clause states the text.
 ///
 /// # Errors
 ///
@@ -40,7 +43,9 @@ pub fn judge_history(
     config: &Config,
     text: &[u8],
     to: &mut String,
-) -> Result<Verdict, HistoryFault> {
+) -> Result<Verdict, HistoryFault>
+    ensures { IfOk result (IsVerdictOf config.now text.now) }
+{
     let form = Form {
         name: asked.name,
         log: text,
@@ -54,15 +59,14 @@ pub fn judge_history(
             return Ok(Verdict::Rejected);
         }
     };
-    if events_of(&log) == 0 {
+    if log.is_empty(alloc)? {
         write_nothing(&form, to)?;
         return Ok(Verdict::Rejected);
     }
     let judged = judge_log(alloc, &log, asked.limit)?;
     write_verdict(&form, &log, &judged, to)?;
-    Ok(if judged.possible {
-        Verdict::Possible
-    } else {
-        Verdict::Impossible
-    })
+    if judged.possible {
+        return Ok(Verdict::Possible);
+    }
+    Ok(Verdict::Impossible)
 }

@@ -61,9 +61,3 @@ pub enum LogFault {
     /// An allocation failed.
     Memory,
 }
-
-impl From<AllocError> for LogFault {
-    fn from(_error: AllocError) -> LogFault {
-        LogFault::Memory
-    }
-}

@@ -2,7 +2,7 @@
 ghost use Rattle.std.specs.Prelude.{◌≡◌, ◌<◌, ◌+◌, ◌^◌, ◌++◌, ◌∷◌, [], true, IfOk, IfSome, OnOk, length, map, option_map, replicate, slice_set};
 ghost use Rattle.vme_history.specs.Logs.{accesses_once};
 ghost use Rattle.vme_history.specs.Histories.{lines_of, made_of, next_line};
-ghost use Rattle.vme_history.specs.Reading.{with_line};
+ghost use Rattle.vme_history.specs.Reading.{empty_log, is_empty};
 
 use crate::stage::Stage;
 use std::alloc::{AllocError, Global};
@@ -105,13 +105,13 @@ impl<'a> Model for Log<'a> {
 }
 
 impl<'a> Log<'a> {
-    /// Returns a log without lines. No clause states that it has none.
+    /// Returns a log without lines.
     ///
     /// # Errors
     ///
     /// `AllocError`: an allocation failed.
     pub fn new(alloc: Global, config: &'a Config) -> Result<Log<'a>, AllocError>
-        ensures { IfOk result (λ log. log.config ≡ config.now) }
+        ensures { IfOk result (λ log. log ≡ empty_log config.now) }
     {
         let mut lines = Vec::with_capacity(alloc, config.boards())?;
         for _board in 0..config.boards() {
@@ -160,6 +160,18 @@ impl<'a> Log<'a> {
             Some(lines) => lines.as_slice(),
             None => &[],
         }
+    }
+
+    /// Returns whether no processor has a line.
+    ///
+    /// # Errors
+    ///
+    /// `AllocError`: an allocation failed.
+    pub(crate) fn is_empty(&self, alloc: Global) -> Result<bool, AllocError>
+        ensures { IfOk result (λ empty. empty ≡ is_empty self.now) }
+    {
+        let counts = self.counts(alloc)?;
+        Ok(counts.iter().all(|count| *count == 0))
     }
 
     /// Returns the number of lines of each processor.

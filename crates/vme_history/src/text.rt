@@ -41,11 +41,6 @@ fn counts_of(log: &Log<'_>) -> Counts {
     counts
 }
 
-/// Returns the number of lines in a log.
-pub(crate) fn events_of(log: &Log<'_>) -> usize {
-    counts_of(log).events
-}
-
 /// Appends a count and the word for what is counted, in the plural unless the count is 1.
 fn write_count(count: usize, thing: &str, to: &mut String) -> Result<(), AllocError> {
     write!(to, "{count} {thing}")?;
