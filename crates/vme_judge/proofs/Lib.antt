@@ -1,3 +1,5 @@
 pub mod Samples
 pub mod Logs
 pub mod Runs
+pub mod Pieces
+pub mod Ends

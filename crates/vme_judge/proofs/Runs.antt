@@ -124,7 +124,7 @@ module _ (log new : LogSoFar) (n : Option Standing) (line next : List ℕ) (byte
       (lines_left (next_taken log None) Broken n (log_says rest) judged)
 
 -- the same judged log
-judged_same : (log a b : LogSoFar) (m n : Option Standing) → IsJudgedAs log a m → a ≡ b → m ≡ n → IsJudgedAs log b n
+pub judged_same : (log a b : LogSoFar) (m n : Option Standing) → IsJudgedAs log a m → a ≡ b → m ≡ n → IsJudgedAs log b n
 judged_same log a b m n (inl same) is now = inl (sym is ∙ same)
 judged_same log a b m n (inr none) is now = inr (none.0, sym now ∙ none.1)
 

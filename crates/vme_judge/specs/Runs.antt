@@ -1,5 +1,5 @@
 -- A log that is judged while it is read.
-use Rattle.std.specs.Prelude.{◌≡◌, ℕ, Bool, true, false, ◌==◌, ◌||◌, if◌then◌else◌, ◌⊎◌, List, [], ◌∷◌, ◌++◌, Option, None, is_some, IsSome}
+use Rattle.std.specs.Prelude.{◌≡◌, ℕ, Bool, true, false, ◌==◌, if◌then◌else◌, ◌⊎◌, List, [], ◌∷◌, ◌++◌, Option, None, is_some, IsSome}
 use Rattle.vme_bus_log.specs.declared.entry.LogEntry.{LogEntry}
 use Rattle.vme_bus_log.specs.Texts.{log_says}
 use Rattle.vme_judge.specs.declared.run.Kind.{Kind}
@@ -7,12 +7,9 @@ use Rattle.vme_judge.specs.declared.run.Kind.TheVariants as kinds
 use Rattle.vme_judge.specs.declared.run.Run.{Run}
 use Rattle.vme_judge.specs.Standing.{Standing, standing, IsOnce}
 use Rattle.vme_judge.specs.Logs.{LogSoFar, Illegal, so_far, log_taken, next_taken}
+use Rattle.vme_judge.specs.Verdicts.{is_space}
 
--- whether a byte is a blank before the first byte of a trace: a space, a tab, a carriage return or a line feed
-abbrev pub is_space : ℕ → Bool
-is_space b = b == 32 || b == 9 || b == 13 || b == 10
-
--- the form of a trace after a text: it is a dump if its first byte that is no blank is a $, else a log
+-- the form of a trace after some bytes: by the first one that is no blank
 abbrev pub form_after : Kind → List ℕ → Kind
 form_after kinds.Dump text = kinds.Dump
 form_after kinds.Log text = kinds.Log
@@ -20,7 +17,7 @@ form_after kinds.Unknown [] = kinds.Unknown
 form_after kinds.Unknown (b ∷ text) =
     if is_space b then form_after kinds.Unknown text else (if b == 36 then kinds.Dump else kinds.Log)
 
--- whether a text is a log, as far as it goes
+-- whether a trace is no dump, as far as it goes
 abbrev pub is_no_dump : Kind → Bool
 is_no_dump kinds.Dump = false
 is_no_dump kinds.Log = true
@@ -66,6 +63,14 @@ IsOnceRun r = IsOnce r.judge × (standing r.judge ≡ None → r.rejection ≡ N
 -- a run for one finding stays one, and if it goes on, it has found and rejected nothing
 abbrev pub RunsOnce : Run → Run → Bool → Type 0
 RunsOnce old new goes_on = IsOnceRun old → IsGoing old → IsOnceRun new × (goes_on ≡ true → IsGoing new)
+
+-- a run has taken bytes of a log: it has judged them, and no further line changes the verdict if it does not go on
+pub record TakesLog (old new : Run) (bytes : List ℕ) (goes_on : Bool) : Type 0 where
+  pub kind : new.kind ≡ form_after old.kind bytes
+  pub judges : Judges old new bytes
+  pub stays : StaysFound old new
+  pub stops : goes_on ≡ false → IsOver (run_so_far new)
+  pub once : RunsOnce old new goes_on
 
 -- the reader of lines, the datum before and the form of the trace stay
 abbrev pub KeepsReader : Run → Run → Type 0

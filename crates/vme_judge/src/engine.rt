@@ -1,6 +1,9 @@
 //! The engine of `bendrika judge`.
-ghost use Rattle.std.specs.Prelude.{◌≡◌, false};
+ghost use Rattle.std.specs.Prelude.{◌≡◌, true, false, IfOk, IfSome};
 ghost use Rattle.vme_judge.specs.Faults.{is_read_end, is_write_end};
+ghost use Rattle.vme_judge.specs.Logs.{status_of};
+ghost use Rattle.vme_judge.specs.Runs.{run_so_far};
+ghost use Rattle.vme_judge.specs.Verdicts.{is_log, IsStatusOf};
 
 use crate::boards::Board;
 use crate::fault::{JudgeFault, Status};
@@ -16,8 +19,9 @@ const PIECE: usize = 16_384;
 
 /// Judges a trace, a dump or a bus log, by the boards of a configuration, and writes the verdict.
 ///
-/// The trace is judged while it is read: after a sample that is not legal nothing more is read. No
-/// clause states the text or the status.
+/// The trace is judged while it is read: after a sample that is not legal nothing more is read. The
+/// status of a log is that of its text, if the reader has a byte model. No clause states that of a
+/// dump, nor what is written.
 ///
 /// # Errors
 ///
@@ -35,6 +39,8 @@ pub fn judge_engine<'a, S: Source, W: Sink>(
     requires writer_unmarked { W.is_marked writer.old ≡ false }
     ensures read { S.is_marked trace.new ≡ is_read_end result }
     ensures write { W.is_marked writer.new ≡ is_write_end result }
+    ensures log { IfSome (S.remaining trace.old) (λ text. is_log text ≡ true →
+        IfOk result (IsStatusOf options.now boards.now text)) }
 {
     let mut run = Run::new(alloc, options, map, boards)?;
     let mut buffer = [0u8; PIECE];
@@ -79,6 +85,7 @@ fn written<W: Sink>(
     requires { W.is_marked writer.old ≡ false }
     ensures read { is_read_end result ≡ false }
     ensures write { W.is_marked writer.new ≡ is_write_end result }
+    ensures status { IfOk result (λ status. status ≡ status_of (run_so_far run.now)) }
 {
     if !run.judge.pending.is_empty() {
         write_all(writer, run.judge.pending.as_bytes())?;

@@ -14,9 +14,9 @@ use crate::log::log_datum;
 use crate::options::Options;
 use crate::transfer::{OpenTransfer, driver_of};
 use std::alloc::{AllocError, Global};
-use vme_answers::{Answers, BoardRule, Open, Wrong};
+use vme_answers::{Answers, Wrong};
 use vme_bus_log::{LogAccess, print_access, print_datum};
-use vme_protocol::{Datum, Local, Mode, Rule, Sample, Scope, Watch};
+use vme_protocol::{Datum, Local, Rule, Sample, Scope, Watch};
 
 /// The place of a sample in the trace.
 #[derive(Clone, Copy, Debug)]
@@ -45,92 +45,7 @@ pub(crate) struct Judge<'a> {
     pub(crate) pending: String,
 }
 
-/// The bytes that the words open, with the boards' indices.
-fn opened(alloc: Global, options: &Options<'_>, boards: &[Board]) -> Result<Vec<Open>, AllocError> {
-    let mut opened = Vec::new(alloc);
-    for open in options.open {
-        for (index, board) in boards.iter().enumerate() {
-            if board.slot == open.slot {
-                let (from, to) = open.range.unwrap_or((0, board.entry.size));
-                opened.push(Open {
-                    board: index,
-                    from: from.min(to.min(board.entry.size)),
-                    to: to.min(board.entry.size),
-                })?;
-            }
-        }
-    }
-    Ok(opened)
-}
-
-/// The boards' answers, if they are judged.
-fn answers_of(
-    alloc: Global,
-    options: &Options<'_>,
-    boards: &[Board],
-) -> Result<Option<Answers>, AllocError> {
-    if !options.has_answers() {
-        return Ok(None);
-    }
-    let mut rules = Vec::new(alloc);
-    for board in boards {
-        rules.push(BoardRule {
-            entry: board.entry,
-            class: board.class,
-        })?;
-    }
-    let opened = opened(alloc, options, boards)?;
-    match Answers::new(
-        alloc,
-        rules.as_slice(),
-        opened.as_slice(),
-        options.zero,
-        options.others,
-    ) {
-        Ok(answers) => Ok(Some(answers)),
-        Err(_) => Err(AllocError),
-    }
-}
-
-impl<'a> Judge<'a> {
-    /// Returns what is known before the first sample.
-    ///
-    /// # Errors
-    ///
-    /// An allocation failed.
-    pub(crate) fn new(
-        alloc: Global,
-        options: &'a Options<'a>,
-        boards: &'a [Board],
-    ) -> Result<Judge<'a>, AllocError> {
-        Ok(Judge {
-            alloc,
-            options,
-            boards,
-            answers: answers_of(alloc, options, boards)?,
-            watch: None,
-            scope: Scope {
-                mode: if options.strict {
-                    Mode::Model
-                } else {
-                    Mode::Bus
-                },
-                busy: false,
-                drivers: false,
-                busy_line: false,
-                grants: false,
-                ignored: options.ignored,
-                timeout: options.timeout.unwrap_or(u64::MAX),
-            },
-            counts: Counts::NONE,
-            transfer: None,
-            finding: None,
-            found: 0,
-            is_under: false,
-            pending: String::new(alloc),
-        })
-    }
-
+impl Judge<'_> {
     /// Returns whether a sample at rest was seen.
     pub(crate) fn is_begun(&self) -> bool {
         self.watch.is_some() || self.found != 0

@@ -13,6 +13,7 @@ mod json;
 mod judge;
 mod log;
 mod message;
+mod opening;
 mod options;
 mod rejection;
 mod resume;

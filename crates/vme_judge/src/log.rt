@@ -163,7 +163,9 @@ fn break_of(last: &LogDatum, datum: &LogDatum) -> Option<LogBreak>
 
 impl LogState {
     /// Returns what is remembered before the first line.
-    pub(crate) fn new() -> LogState {
+    pub(crate) fn new() -> LogState
+        ensures { result.last ≡ None }
+    {
         LogState { last: None }
     }
 

@@ -1,4 +1,6 @@
 //! What is asked of a judgement.
+ghost use Rattle.std.specs.Prelude.{◌≡◌};
+ghost use Rattle.vme_judge.specs.Openings.{has_answers};
 
 /// Bytes of a board that may be written unseen: all, or those at offsets from `from` to before `to`.
 #[derive(Clone, Copy, Debug, PartialEq, Eq)]
@@ -38,7 +40,9 @@ pub struct Options<'a> {
 
 impl Options<'_> {
     /// Returns whether the answers of boards are judged.
-    pub(crate) fn has_answers(&self) -> bool {
+    pub(crate) fn has_answers(&self) -> bool
+        ensures { result ≡ has_answers self.now }
+    {
         !self.protocol && !self.log
     }
 }

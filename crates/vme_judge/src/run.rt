@@ -1,9 +1,13 @@
 //! A trace, byte by byte.
 ghost use Rattle.std.specs.Prelude.{◌≡◌, ◌≢◌, ◌||◌, [], ◌∷◌, true, false, Some, None, is_some, IfOk};
+ghost use Rattle.vme_judge.specs.declared.run.Kind.TheVariants.{Unknown};
 ghost use Rattle.vme_judge.specs.declared.log.Taken.TheVariants.{Legal};
 ghost use Rattle.vme_judge.specs.Logs.{is_broken};
+ghost use Rattle.vme_judge.specs.Logs.{Legal as LegalSoFar};
+ghost use Rattle.vme_judge.specs.Openings.{opening};
 ghost use Rattle.vme_judge.specs.Standing.{standing};
-ghost use Rattle.vme_judge.specs.Runs.{log_whole, run_so_far, IsGoing, IsJudgedAs, IsOnceRun, IsOver, Judges, KeepsReader, RunsOnce, StaysFound, TakesLine};
+ghost use Rattle.vme_judge.specs.Runs.{form_after, is_no_dump, log_whole, run_so_far, IsGoing, IsJudgedAs, IsOnceRun, IsOver, Judges, KeepsReader, RunsOnce, StaysFound, TakesLine, TakesLog};
+ghost use Rattle.vme_judge.specs.Verdicts.{is_space};
 
 use crate::boards::Board;
 use crate::dump::{Ports, set_scope, take_sample};
@@ -47,17 +51,26 @@ impl<'a> Run<'a> {
         options: &'a Options<'a>,
         map: &'a LineMap,
         boards: &'a [Board],
-    ) -> Result<Run<'a>, AllocError> {
+    ) -> Result<Run<'a>, AllocError>
+        ensures opens { IfOk result (λ run. run_so_far run ≡ LegalSoFar (opening options.now boards.now) None) }
+        ensures going { IfOk result IsGoing }
+        ensures limit { IfOk result (λ run. run.judge.options.now.limit ≡ options.now.limit) }
+        ensures found { IfOk result (λ run. run.judge.found ≡ 0) }
+        ensures line { IfOk result (λ run. run.log.line ≡ []) }
+        ensures kind { IfOk result (λ run. run.kind ≡ Unknown) }
+    {
         let Ok(vcd) = VcdReader::new(alloc, map) else {
             return Err(AllocError);
         };
+        let judge = Judge::new(alloc, options, boards)?;
+        let state = LogState::new();
         Ok(Run {
-            judge: Judge::new(alloc, options, boards)?,
+            judge,
             vcd,
             kind: Kind::Unknown,
             rejection: None,
             log: LogReader::new(),
-            state: LogState::new(),
+            state,
             ports: Ports::new(),
         })
     }
@@ -67,7 +80,10 @@ impl<'a> Run<'a> {
     /// # Errors
     ///
     /// An allocation failed.
-    pub(crate) fn push_all(&mut self, bytes: &[u8]) -> Result<bool, AllocError> {
+    pub(crate) fn push_all(&mut self, bytes: &[u8]) -> Result<bool, AllocError>
+        ensures { IfOk result (λ goes_on. is_no_dump (form_after self.old.kind bytes.now) ≡ true →
+            TakesLog self.old self.new bytes.now goes_on) }
+    {
         match self.kind {
             Kind::Dump => self.push_dump_all(bytes),
             Kind::Log => self.push_log_all(bytes),
@@ -76,28 +92,37 @@ impl<'a> Run<'a> {
     }
 
     /// Takes bytes before the form is known: that of the first one that is no blank.
-    fn push_unknown(&mut self, bytes: &[u8]) -> Result<bool, AllocError> {
-        let Some(place) = bytes.iter().position(|byte| !is_space(*byte)) else {
-            return self.push_blanks(bytes);
-        };
-        let (blanks, text) = bytes.split_at(place);
+    fn push_unknown(&mut self, bytes: &[u8]) -> Result<bool, AllocError>
+        ensures { IfOk result (λ goes_on. is_no_dump (form_after Unknown bytes.now) ≡ true →
+            self.old.kind ≡ Unknown → TakesLog self.old self.new bytes.now goes_on) }
+    {
+        self.kind = form_of(bytes);
+        match self.kind {
+            Kind::Dump => self.begin_dump(bytes),
+            Kind::Log => self.push_log_all(bytes),
+            Kind::Unknown => self.push_blanks(bytes),
+        }
+    }
+
+    /// Takes the first bytes of a dump, with the blanks before them.
+    fn begin_dump(&mut self, bytes: &[u8]) -> Result<bool, AllocError> {
+        let place = bytes.iter().position(|byte| !is_space(*byte));
+        let (blanks, text) = bytes.split_at(place.unwrap_or(bytes.len()));
         if !self.push_blanks(blanks)? {
             return Ok(false);
         }
-        if text.first() == Some(&b'$') {
-            self.kind = Kind::Dump;
-            return self.push_dump_all(text);
-        }
-        self.kind = Kind::Log;
-        self.push_log_all(text)
+        self.push_dump_all(text)
     }
 
     /// Takes blanks before the form is known, which are lines of either.
-    fn push_blanks(&mut self, bytes: &[u8]) -> Result<bool, AllocError> {
-        for byte in bytes {
-            // A blank before the first word of a dump says nothing.
-            let _ = self.vcd.push(*byte);
-        }
+    fn push_blanks(&mut self, bytes: &[u8]) -> Result<bool, AllocError>
+        ensures judges { IfOk result (λ _. Judges self.old self.new bytes.now) }
+        ensures stays { IfOk result (λ _. StaysFound self.old self.new) }
+        ensures stops { IfOk result (λ goes_on. goes_on ≡ false → IsOver (run_so_far self.new)) }
+        ensures once { IfOk result (λ goes_on. RunsOnce self.old self.new goes_on) }
+        ensures kind { IfOk result (λ _. self.new.kind ≡ self.old.kind) }
+    {
+        skip_blanks(&mut self.vcd, bytes);
         self.push_log_all(bytes)
     }
 
@@ -251,16 +276,21 @@ impl<'a> Run<'a> {
         }
     }
 
-    /// Ends the trace.
+    /// Ends the trace. One of blanks alone is a log.
     ///
     /// # Errors
     ///
     /// An allocation failed.
-    pub(crate) fn end(&mut self) -> Result<(), AllocError> {
+    pub(crate) fn end(&mut self) -> Result<(), AllocError>
+        ensures judges { IfOk result (λ _. is_no_dump self.old.kind ≡ true →
+            IsJudgedAs (log_whole self.old []) (run_so_far self.new) (standing self.new.judge)) }
+        ensures stays { IfOk result (λ _. is_no_dump self.old.kind ≡ true → StaysFound self.old self.new) }
+        ensures once { IfOk result (λ _. is_no_dump self.old.kind ≡ true →
+            IsOnceRun self.old → IsGoing self.old → IsOnceRun self.new) }
+    {
         match self.kind {
             Kind::Dump => self.end_dump(),
-            Kind::Log => self.end_log(),
-            Kind::Unknown => Ok(()),
+            Kind::Log | Kind::Unknown => self.end_log(),
         }
     }
 
@@ -305,6 +335,27 @@ impl<'a> Run<'a> {
 }
 
 /// Whether a byte is a blank between the lines of a trace.
-fn is_space(byte: u8) -> bool {
+fn is_space(byte: u8) -> bool
+    ensures { result ≡ is_space byte }
+{
     matches!(byte, b' ' | b'\t' | b'\r' | b'\n')
+}
+
+/// The form of a trace by its first bytes.
+fn form_of(bytes: &[u8]) -> Kind
+    ensures { result ≡ form_after Unknown bytes.now }
+{
+    for byte in bytes {
+        if !is_space(*byte) {
+            return if *byte == b'$' { Kind::Dump } else { Kind::Log };
+        }
+    }
+    Kind::Unknown
+}
+
+/// Takes blanks of a dump: one before its first word says nothing.
+fn skip_blanks(vcd: &mut VcdReader<'_>, blanks: &[u8]) {
+    for byte in blanks {
+        let _ = vcd.push(*byte);
+    }
 }

@@ -1,9 +1,11 @@
 use Rattle.std.proofs.Common.{◌≡◌, false}
+use Rattle.vme_judge.proofs.Pieces.{Between}
 use Rattle.vme_judge.proofs.engine.judge_engine.Given as goal
 
--- no device has failed
+-- no device has failed, and the bytes so far are judged
 abbrev pub invariant-loop-piece : goal.invariant-loop-piece
 invariant-loop-piece g l = record {
   read : g.S.Source.is_marked l.trace ≡ false;
   write : g.W.Sink.is_marked l.writer ≡ false;
+  judged : Between l.options l.boards (g.S.Source.remaining l.fn.trace) (g.S.Source.remaining l.trace) l.run;
 }

@@ -1,0 +1,40 @@
+use Rattle.std.proofs.Common.{take, Ok, ap, ◌∙◌, rules, arith}
+use Rattle.std.proofs.lemmas.Grind.{common_steps}
+use Rattle.vme_judge.proofs.Ends.{ends_after, goes_on_after, stops_after}
+use Rattle.vme_judge.proofs.Pieces.{between_begins, between_written}
+use Rattle.vme_judge.proofs.engine.judge_engine.Goals as goal
+
+pub loop-piece-init : goal.loop-piece-init
+loop-piece-init g c = record {
+  read = c.requires.reader_unmarked;
+  write = c.requires.writer_unmarked;
+  judged = between_begins c.args.options.now c.args.boards.now (g.S.Source.remaining c.args.trace.now) c.in_ok-run.run'
+      c.in_ok-run.ensures.opens c.in_ok-run.ensures.going c.in_ok-run.ensures.limit c.in_ok-run.ensures.found
+      c.in_ok-run.ensures.line c.in_ok-run.ensures.kind;
+}
+
+pub returns-then-count-eq0-clause-log : goal.returns-then-count-eq0-clause-log
+returns-then-count-eq0-clause-log g c =
+    ends_after c.args.options.now c.args.boards.now (g.S.Source.remaining c.args.trace.now) (g.S.Source.remaining c.loop-piece.trace)
+    (g.S.Source.remaining c.read.new.self) c.loop-piece.run c.end.new.self c.written.result c.loop-piece.invariant.judged
+    (rw c.if-count-eq0.true at c.in-Ok.ensures.bytes) (c.in-Ok.ensures.end (ap Ok c.if-count-eq0.true))
+    c.in_ok-end.ensures.judges c.in_ok-end.ensures.stays c.in_ok-end.ensures.once c.written.ensures.status
+
+pub returns-then-not-branch-clause-log : goal.returns-then-not-branch-clause-log
+returns-then-not-branch-clause-log g c =
+    stops_after c.args.options.now c.args.boards.now (g.S.Source.remaining c.args.trace.now) (g.S.Source.remaining c.loop-piece.trace)
+    (g.S.Source.remaining c.read.new.self) c.loop-piece.run c.push_all.new.self _ (take c.in-Ok.count c.read.new.buffer) _
+    c.written-then-not-branch.result c.loop-piece.invariant.judged c.in-Ok.ensures.bytes c.in_ok-push_all.ensures
+    (first_of (grind (arith, common_steps), search rules)) c.if-not-branch.true c.written-then-not-branch.ensures.status
+
+pub loop-piece-preserved : goal.loop-piece-preserved
+loop-piece-preserved g c = record {
+  read = c.in-Ok.ensures.unmarked ∙ c.loop-piece.invariant.read;
+  write = c.in_ok-write_pending.ensures.write;
+  judged = between_written c.args.options.now c.args.boards.now (g.S.Source.remaining c.args.trace.now) (g.S.Source.remaining c.read.new.self)
+      c.push_all.new.self c.write_pending.new.pending
+      (goes_on_after c.args.options.now c.args.boards.now (g.S.Source.remaining c.args.trace.now) (g.S.Source.remaining c.loop-piece.trace)
+      (g.S.Source.remaining c.read.new.self) c.loop-piece.run c.push_all.new.self _ (take c.in-Ok.count c.read.new.buffer) _
+      c.loop-piece.invariant.judged c.in-Ok.ensures.bytes c.in_ok-push_all.ensures (first_of (grind (arith, common_steps), search rules))
+      c.if-not-branch.false);
+}
