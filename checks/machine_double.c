@@ -26,6 +26,10 @@ struct machine {
 
 enum phase { IDLE, ASK, LOOK, MOVE, DONE, ENDED };
 
+/* What a processor does over the bus, and the stages of a put or a take. */
+enum kind { TRANSFER, LOCK, UNLOCK, PUT, TAKE };
+enum stage { LOCKS, READS_PUT, READS_TAKEN, MOVES_WORD, COUNTS, UNLOCKS };
+
 struct processor {
     struct machine *machine;
     size_t index;
@@ -37,6 +41,11 @@ struct processor {
     size_t have;
     vme_request request;
     uint8_t bytes[MOST_BYTES];
+    enum kind kind;
+    enum stage stage;
+    vme_mailbox box;
+    uint32_t word, put, taken;
+    uint8_t end; /* what a put or a take ends with, once its lock is released */
 };
 
 static void *allocated(size_t size)
@@ -266,6 +275,7 @@ static uint8_t start(vme_processor *p, const vme_request *wanted, const uint8_t 
     const uint8_t result = vme_request_check(wanted, &first);
     if (result != VME_OK)
         return result;
+    own->kind = TRANSFER;
     own->request = *wanted;
     own->datum = 0;
     own->have = 0;
@@ -333,7 +343,7 @@ static uint8_t reply(struct processor *own, const vme_selection *found)
     return result;
 }
 
-static uint8_t move(struct processor *own)
+static uint8_t move(struct processor *own, uint8_t *said)
 {
     vme_selection found;
     uint8_t result = vme_map_select(own->machine->map, own->machine->count, own->request.am, own->request.addr, &found);
@@ -341,7 +351,7 @@ static uint8_t move(struct processor *own)
         struct object *board = &own->machine->boards[found.place];
         if (!take(board))
             return VME_BUSY;
-        result = reply(own, &found);
+        *said = result = reply(own, &found);
         give(board);
     }
     own->datum++;
@@ -353,7 +363,7 @@ static uint8_t move(struct processor *own)
 }
 
 /* Asks the arbiter for the bus, looks whether it is granted, or releases it. */
-static uint8_t use_bus(struct processor *own)
+static uint8_t use_bus(struct processor *own, uint8_t *said)
 {
     struct machine *machine = own->machine;
     if (!take(&machine->bus))
@@ -364,23 +374,15 @@ static uint8_t use_bus(struct processor *own)
     give(&machine->bus);
     if (own->phase == DONE) {
         own->phase = ENDED;
+        *said = VME_BUS_FREED;
         return own->result;
     }
     own->phase = told == VME_GRANTED ? MOVE : LOOK;
+    *said = told == VME_GRANTED ? VME_BUS_GRANTED : VME_NOT_GRANTED;
     return told == VME_GRANTED ? VME_MORE : VME_NOT_GRANTED;
 }
 
-uint8_t vme_processor_step(vme_processor *p)
-{
-    struct processor *own = of(p);
-    if (!own)
-        return VME_CLOSED;
-    if (own->phase == IDLE)
-        return VME_BAD_CALL;
-    if (own->phase == ENDED)
-        return own->result;
-    return own->phase == MOVE ? move(own) : use_bus(own);
-}
+#include "machine_double_steps.h"
 
 uint8_t vme_processor_bytes(vme_processor *p, uint8_t *out, size_t size, size_t *count)
 {

@@ -123,7 +123,7 @@ def build_wrong(folder: Path, libvme: Path) -> Iterator[tuple[str, Path]]:
         expect(text.count(old) == 1, f"checks/machine_double.c has not once: {old}")
         source, made = folder / f"wrong_{place}.c", folder / f"wrong_{place}.o"
         source.write_text(text.replace(old, new), encoding="utf-8")
-        output("gcc", "-std=c11", "-O2", "-fPIC", f"-I{ROOT}/include", "-c", source, "-o", made)
+        output("gcc", "-std=c11", "-O2", "-fPIC", f"-I{ROOT}/include", f"-I{ROOT}/checks", "-c", source, "-o", made)
         yield name, traced_archive(folder / f"wrong_{place}", made, libvme)
 
 

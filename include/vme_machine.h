@@ -51,12 +51,17 @@ enum {
     VME_C13 = 0x1d,         /* A mailbox is not lawful. */
     VME_C14 = 0x1e,         /* A line of a script is refused. */
     VME_NO_MEMORY = 0x25,   /* An allocation failed. */
+    VME_BUS_GRANTED = 0x30, /* Of a reply: the arbiter granted the bus. */
     VME_NOT_GRANTED = 0x31, /* Another slot has the bus: the transfer has not begun. */
     VME_BUS_DENIED = 0x32,  /* The arbiter denied a command of the transfer. For no processor of a machine it does. */
+    VME_BUS_FREED = 0x33,   /* Of a reply: the bus was released. */
     VME_MORE = 0x34,        /* One event has happened, and the transfer goes on. */
     VME_BUSY = 0x50,        /* Another call is inside the object. Nothing has happened: try again. */
     VME_CLOSED = 0x51,      /* The processor is empty: not opened, closed or dropped. */
-    VME_SPENT = 0x52        /* The object has made 2^64 - 1 steps, and makes no more. */
+    VME_SPENT = 0x52,       /* The object has made 2^64 - 1 steps, or the mailbox has had 2^32 - 1 words. It makes no more. */
+    VME_HELD = 0x53,        /* Another processor has the lock. */
+    VME_FULL = 0x54,        /* The mailbox has as many words as slots. */
+    VME_EMPTY = 0x55        /* The mailbox has no word. */
 };
 
 /* ---- Machines ---- */
@@ -135,11 +140,12 @@ enum { VME_MOST_READ = 2048 };
  *
  * A transfer is a tenure of the bus: the processor's requester asks the arbiter for it, then each datum
  * is one event of the board that responds, then the bus is released. Any processor may reach any board
- * of the machine, its own one too. */
+ * of the machine, its own one too. A processor does one thing at a time over the bus: a transfer, or a
+ * lock, an unlock, a put or a take. */
 
 /* Starts a read: of a block if the kind is VME_BLOCK_READ, and otherwise of one datum. Fails with the
- * request's first refusal; with VME_BAD_CALL if a transfer of this processor has not ended; with VME_NO_MEMORY
- * if a block of more than 40 bytes gets no memory; and with VME_CLOSED. */
+ * request's first refusal; with VME_BAD_CALL if what this processor does over the bus has not ended; with
+ * VME_NO_MEMORY if a block of more than 40 bytes gets no memory; and with VME_CLOSED. */
 uint8_t vme_processor_start_read(vme_processor *p, const vme_request *request);
 
 /* Starts a write of size bytes, which are copied: as a block of data of request->n bytes if the kind is
@@ -150,17 +156,65 @@ uint8_t vme_processor_start_write(vme_processor *p, const vme_request *request, 
 /* Starts a read-modify-write by f. Ignores the kind, count and f of the request. Fails as a read does. */
 uint8_t vme_processor_start_modify(vme_processor *p, const vme_request *request, const vme_modify *f);
 
-/* Makes at most one event of the transfer. Returns VME_MORE, VME_NOT_GRANTED, VME_BUSY or VME_SPENT while
- * it goes on; with its first VME_MORE the processor has the bus. It has ended, and the bus is released,
- * with VME_OK; with VME_BERR if the board drove BERR*, after which the data before it have been moved; and
- * with VME_NO_BOARD if no board responds. A step after the end returns the end again. Fails with
- * VME_BAD_CALL if no transfer was started, and with VME_CLOSED. */
+/* Makes at most one event of what was started last. Returns VME_MORE, VME_NOT_GRANTED, VME_BUSY or VME_SPENT
+ * while it goes on; with its first VME_MORE the processor has the bus. A transfer has ended, and the bus is
+ * released, with VME_OK; with VME_BERR if the board drove BERR*, after which the data before it have been
+ * moved; and with VME_NO_BOARD if no board responds. How a lock, an unlock, a put or a take ends is said below.
+ * A step after the end returns the end again. Fails with VME_BAD_CALL if nothing was started, and with
+ * VME_CLOSED. */
 uint8_t vme_processor_step(vme_processor *p);
+
+/* The same step. Writes the reply to its event to reply: VME_OK or VME_BERR of a board; VME_BUS_GRANTED,
+ * VME_NOT_GRANTED, VME_BUS_DENIED or VME_BUS_FREED of the arbiter; and if there was no event VME_BUSY,
+ * VME_SPENT, or VME_BAD_CALL, as after the end. Writes the bytes of a board's reply, if it has any, to
+ * bytes. */
+uint8_t vme_processor_step_reply(vme_processor *p, uint8_t *reply, vme_datum *bytes);
 
 /* Writes the bytes that the last transfer read, once it has ended, and their number to count: after a
  * read-modify-write the old ones, after a bus error those before it, and otherwise none. Fails with
  * VME_BAD_CALL if they are more than size, and then writes only their number; and with VME_CLOSED. */
 uint8_t vme_processor_bytes(vme_processor *p, uint8_t *out, size_t size, size_t *count);
+
+/* ---- Locks and mailboxes over the bus: start one, then step it until it ends ----
+ *
+ * A lock is bit 7 of a byte, which a read-modify-write sets. A put locks the mailbox, reads both counts, writes
+ * the word, writes its count plus one, and unlocks; a take reads the word in place of writing it. Each of
+ * these is a transfer with a tenure of its own, and a step whose tenure ends returns VME_MORE unless it is
+ * the last one. No start allocates.
+ *
+ * A step ends these as a transfer, and with VME_HELD if the lock was taken before; a put also with VME_FULL,
+ * and with VME_SPENT if 2^32 - 1 words were put, and a take with VME_EMPTY. Then no word was moved. The lock
+ * of the mailbox is free after each end but VME_HELD, a bus error at the lock, and one that the unlock had.
+ * VME_NO_BOARD is a bus error where no board responds to the lock. */
+
+/* A mailbox: a lock byte at addr, the number of words put at 4 and taken at 8, and its words from 16. Each has
+ * four bytes, the most significant first. At first its 16 + 4 * slots bytes are zeros. The board has width 32 and
+ * read-modify-writes. */
+typedef struct vme_mailbox {
+    uint32_t addr;  /* a multiple of 4 */
+    uint16_t slots; /* 1 to 64 */
+    uint8_t am;     /* a data code */
+} vme_mailbox;
+
+/* Starts a lock, and an unlock, which clears the byte. Fails with the first refusal of its cycle; with
+ * VME_BAD_CALL if what this processor does over the bus has not ended; and with VME_CLOSED. */
+uint8_t vme_processor_start_lock(vme_processor *p, uint8_t am, uint32_t addr);
+uint8_t vme_processor_start_unlock(vme_processor *p, uint8_t am, uint32_t addr);
+
+/* Starts a put of a word, and a take of the oldest word. Fails with VME_C13 if addr is no multiple of 4, if
+ * slots is not 1 to 64, or if the mailbox ends after the 32-bit addresses; with the refusal of the lock's cycle,
+ * or else that of a read of the last word; with VME_BAD_CALL as a lock does; and with VME_CLOSED. */
+uint8_t vme_processor_start_put(vme_processor *p, const vme_mailbox *box, uint32_t word);
+uint8_t vme_processor_start_take(vme_processor *p, const vme_mailbox *box);
+
+/* Writes the word that a take has taken. Fails with VME_BAD_CALL if what was started last is no take that has
+ * ended with VME_OK; and with VME_CLOSED. */
+uint8_t vme_processor_word(vme_processor *p, uint32_t *word);
+
+/* Writes the request of the transfer at which a lock, an unlock, a put or a take is to request, with its kind
+ * and the function of a read-modify-write, and the bytes of a write to bytes. Fails with VME_BAD_CALL if what
+ * was started last is none of these, or has ended; and with VME_CLOSED. */
+uint8_t vme_processor_transfer(vme_processor *p, vme_request *request, vme_datum *bytes);
 
 #ifdef __cplusplus
 }
@@ -177,6 +231,7 @@ uint8_t vme_processor_bytes(vme_processor *p, uint8_t *out, size_t size, size_t 
 VME_LAYOUT(vme_processor, 2 * sizeof(void *));
 VME_LAYOUT(vme_board, 20);
 VME_LAYOUT(vme_loaded, sizeof(size_t) + 8);
+VME_LAYOUT(vme_mailbox, 8);
 #undef VME_LAYOUT
 
 #endif

@@ -14,7 +14,7 @@
  * bytes, two for a modify. A line begins with the nanoseconds since the machine was opened. Lines stand in the order of the events:
  * each call that makes an event is made with a lock of its machine held, and takes the place of its line before it gives the lock
  * back. So no two calls of a traced machine overlap, and none returns VME_BUSY. The bytes and the answer of a datum are known at the
- * end of its transfer: until then its line is a comment.
+ * end of its transfer: until then its line is a comment. Those of a lock or a mailbox are known at once.
  *
  * What a log shows is what this layer writes; nothing of it is proved. It trusts that the lock orders the calls, that a reply is
  * the one that the program gets, and that the library makes the event of a step within the call. Address, strobes and lanes are the

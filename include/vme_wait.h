@@ -4,15 +4,16 @@
  *
  * - while another thread is inside the same object (VME_BUSY), it spins, yields, and then sleeps;
  * - while another slot has the bus (VME_NOT_GRANTED), it spins and then sleeps on a count of releases, which
- *   each transfer of this file that ends increments and wakes;
- * - a lock that another processor has is tried again after a write of this file that ended.
+ *   each release of the bus by this file increments and wakes;
+ * - a lock that another processor has is tried again after a write, a put or a take of this file that ended;
+ * - a put or a take is tried again after one of this file that moved a word, while the mailbox is full or empty.
  *
  * Each sleep takes 1 ms at most, so no lost wake-up blocks for ever, even if other code calls the machine
  * without this file. Fairness is not promised. On Linux a sleep is a futex, which needs no setup and works
  * between processes; elsewhere it is a mutex with a condition variable.
  *
  * Nothing of this file is proved, and no proof depends on it: it decides when to call the machine, and the
- * machine's replies are what it returns.
+ * machine's replies are what it returns. What a lock, a put or a take does on the bus is the machine's.
  *
  * vme_waiter.h says how a waiter is made.
  */
@@ -24,14 +25,6 @@
 #ifdef __cplusplus
 extern "C" {
 #endif
-
-/* ---- Results, besides those of vme_machine.h ---- */
-
-enum {
-    VME_HELD = 0x53, /* Another processor has the lock. */
-    VME_FULL = 0x54, /* The mailbox has as many words as slots. */
-    VME_EMPTY = 0x55 /* The mailbox has no word. */
-};
 
 /* ---- The local port of the processor's own board ---- */
 
@@ -75,15 +68,20 @@ static inline uint8_t vme_processor_local_modify(vme_processor *p, const vme_wai
 
 /* ---- Transfers over the bus ---- */
 
-/* Steps a transfer that was started until it ends, or until its next event if `once` is not 0. Returns the result of the last step. */
-static inline uint8_t vme_go_on(vme_processor *p, const vme_waiter *waiter, int once)
+/* Steps what was started until it ends, or until its next event if `once` is not 0. Returns the result of the last step. If `wakes` is not
+ * 0, each release of the bus wakes those that wait for it. */
+static inline uint8_t vme_go_on(vme_processor *p, const vme_waiter *waiter, int once, int wakes)
 {
     vme_tries tries = { 0, 0 };
     for (;;) {
         const uint32_t value = vme_count_value(vme_bus_of(waiter));
+        vme_datum bytes;
+        uint8_t reply = VME_BAD_CALL;
         vme_before_event(waiter);
-        const uint8_t result = vme_processor_step(p);
+        const uint8_t result = wakes ? vme_processor_step_reply(p, &reply, &bytes) : vme_processor_step(p);
         vme_after_event(waiter);
+        if (reply == VME_BUS_FREED)
+            vme_count_increment(vme_bus_of(waiter));
         if (result == VME_MORE && !once)
             memset(&tries, 0, sizeof tries);
         else if ((result != VME_BUSY && result != VME_NOT_GRANTED)
@@ -97,17 +95,23 @@ static inline uint8_t vme_go_on(vme_processor *p, const vme_waiter *waiter, int 
  * VME_CLOSED. */
 static inline uint8_t vme_acquire(vme_processor *p, const vme_waiter *waiter)
 {
-    const uint8_t result = vme_go_on(p, waiter, 1);
+    const uint8_t result = vme_go_on(p, waiter, 1, 0);
     return result == VME_MORE ? (uint8_t)VME_OK : result;
 }
 
-/* Steps a transfer that was started until it ends, and returns the result of its last step. */
+/* Steps a transfer, a lock or an unlock that was started until it ends, and returns the result of the last step. */
 static inline uint8_t vme_finish(vme_processor *p, const vme_waiter *waiter)
 {
-    const uint8_t result = vme_go_on(p, waiter, 0);
-    if (result == VME_OK || result == VME_BERR || result == VME_NO_BOARD)
+    const uint8_t result = vme_go_on(p, waiter, 0, 0);
+    if (result == VME_OK || result == VME_BERR || result == VME_NO_BOARD || result == VME_HELD)
         vme_count_increment(vme_bus_of(waiter));
     return result;
+}
+
+/* The same for a put or a take, which has several tenures. */
+static inline uint8_t vme_finish_tenures(vme_processor *p, const vme_waiter *waiter)
+{
+    return vme_go_on(p, waiter, 0, 1);
 }
 
 /* The same for a transfer that writes. */
@@ -141,6 +145,18 @@ static inline uint8_t vme_read_bytes(vme_processor *p, vme_datum *out)
     if (result == VME_OK)
         *out = datum;
     return result;
+}
+
+/* A word of 32 bits as a datum, the most significant byte first, and the word of a datum of four bytes. */
+static inline vme_datum vme_datum_of(uint32_t word)
+{
+    const vme_datum datum = { 4, { (uint8_t)(word >> 24), (uint8_t)(word >> 16), (uint8_t)(word >> 8), (uint8_t)word } };
+    return datum;
+}
+
+static inline uint32_t vme_word_of(const vme_datum *datum)
+{
+    return (uint32_t)datum->bytes[0] << 24 | (uint32_t)datum->bytes[1] << 16 | (uint32_t)datum->bytes[2] << 8 | datum->bytes[3];
 }
 
 /* Reads n bytes at an address by one cycle. Returns VME_OK, VME_BERR, VME_NO_BOARD, a refusal, or what the waiter's limit
@@ -199,23 +215,14 @@ static inline uint8_t vme_block_write(vme_processor *p, const vme_waiter *waiter
     return result == VME_OK ? vme_finish_write(p, waiter) : result;
 }
 
-/* ---- Locks: bit 7 of a byte, which a read-modify-write sets ---- */
+/* ---- Locks and mailboxes ---- */
 
 /* Tries once to take the lock at an address. Returns VME_OK if the processor has the lock now, VME_HELD if the bit was set before, and
  * else what a read does. */
 static inline uint8_t vme_try_lock(vme_processor *p, const vme_waiter *waiter, uint8_t am, uint32_t addr)
 {
-    const vme_request request = vme_request_of(VME_MODIFY, am, addr, 1, 0);
-    vme_modify set;
-    vme_datum old = { 0, { 0 } };
-    memset(&set, 0, sizeof set);
-    set.function = VME_SET;
-    uint8_t result = vme_processor_start_modify(p, &request, &set);
-    if (result == VME_OK)
-        result = vme_finish(p, waiter);
-    if (result == VME_OK)
-        result = vme_read_bytes(p, &old);
-    return result == VME_OK && (old.bytes[0] & 0x80) ? (uint8_t)VME_HELD : result;
+    const uint8_t result = vme_processor_start_lock(p, am, addr);
+    return result == VME_OK ? vme_finish(p, waiter) : result;
 }
 
 /* Takes the lock at an address, and waits until it is free. Returns VME_HELD if the waiter's limit is reached, and else what a
@@ -234,89 +241,48 @@ static inline uint8_t vme_lock(vme_processor *p, const vme_waiter *waiter, uint8
 /* Gives the lock at an address back: clears its byte. Returns what a read does. */
 static inline uint8_t vme_unlock(vme_processor *p, const vme_waiter *waiter, uint8_t am, uint32_t addr)
 {
-    const vme_datum zero = { 1, { 0 } };
-    return vme_write(p, waiter, am, addr, &zero);
+    const uint8_t result = vme_processor_start_unlock(p, am, addr);
+    return result == VME_OK ? vme_finish_write(p, waiter) : result;
 }
 
-/* ---- Mailboxes: queues of words in the memory of a board ---- */
-
-/* A mailbox: a lock byte at addr, the number of words put at 4 and taken at 8, and its words from 16. At first its 16 + 4 * slots
- * bytes are zeros. am is a data code, and the board has width 32 and read-modify-writes. */
-typedef struct vme_mailbox {
-    uint32_t addr;  /* a multiple of 4 */
-    uint16_t slots; /* 1 or more */
-    uint8_t am;
-} vme_mailbox;
-
-static inline uint32_t vme_word_of(const vme_datum *datum)
+/* Puts a word into a mailbox, or takes one if word is null, until one has been moved. */
+static inline uint8_t vme_use_mailbox(vme_processor *p, const vme_waiter *waiter, const vme_mailbox *box, const uint32_t *word)
 {
-    return (uint32_t)datum->bytes[0] << 24 | (uint32_t)datum->bytes[1] << 16 | (uint32_t)datum->bytes[2] << 8 | datum->bytes[3];
-}
-
-static inline vme_datum vme_datum_of(uint32_t word)
-{
-    const vme_datum datum = { 4, { (uint8_t)(word >> 24), (uint8_t)(word >> 16), (uint8_t)(word >> 8), (uint8_t)word } };
-    return datum;
-}
-
-/* Moves a word into a mailbox whose lock the processor has, or out of it. */
-static inline uint8_t vme_move_word(vme_processor *p, const vme_waiter *waiter, const vme_mailbox *box, int is_put, uint32_t *word)
-{
-    vme_datum datum, put = { 0, { 0 } }, taken = { 0, { 0 } };
-    uint8_t result = vme_read(p, waiter, box->am, box->addr + 4, 4, &put);
-    if (result == VME_OK)
-        result = vme_read(p, waiter, box->am, box->addr + 8, 4, &taken);
-    if (result != VME_OK)
-        return result;
-    const uint32_t words = vme_word_of(&put) - vme_word_of(&taken), count = vme_word_of(is_put ? &put : &taken);
-    const uint32_t at = box->addr + 16 + 4 * (count % box->slots);
-    if (is_put ? words >= box->slots : words == 0)
-        return is_put ? VME_FULL : VME_EMPTY;
-    if (is_put && count == 0xffffffffu)
-        return VME_SPENT;
-    datum = vme_datum_of(*word);
-    result = is_put ? vme_write(p, waiter, box->am, at, &datum) : vme_read(p, waiter, box->am, at, 4, &datum);
-    if (result != VME_OK)
-        return result;
-    *word = vme_word_of(&datum);
-    datum = vme_datum_of(count + 1);
-    return vme_write(p, waiter, box->am, box->addr + (is_put ? 4 : 8), &datum);
-}
-
-/* Takes the lock of a mailbox, moves a word, and gives the lock back, until a word has been moved. */
-static inline uint8_t vme_use_mailbox(vme_processor *p, const vme_waiter *waiter, const vme_mailbox *box, int is_put, uint32_t *word)
-{
-    vme_tries tries = { 0, 0 };
+    vme_tries locked = { 0, 0 }, moved = { 0, 0 };
     for (;;) {
-        const uint32_t value = vme_count_value(vme_words_of(waiter));
-        uint8_t freed, result = vme_lock(p, waiter, box->am, box->addr);
+        const uint32_t data = vme_count_value(vme_data_of(waiter)), words = vme_count_value(vme_words_of(waiter));
+        uint8_t result = word ? vme_processor_start_put(p, box, *word) : vme_processor_start_take(p, box);
         if (result != VME_OK)
             return result;
-        result = vme_move_word(p, waiter, box, is_put, word);
-        if (result == VME_BUSY || result == VME_NOT_GRANTED)
-            return result;
-        freed = vme_unlock(p, waiter, box->am, box->addr);
-        if (result == VME_OK && freed == VME_OK)
+        result = vme_finish_tenures(p, waiter);
+        if (result == VME_HELD) {
+            if (!vme_wait(waiter, vme_data_of(waiter), data, &locked))
+                return result;
+            continue;
+        }
+        memset(&locked, 0, sizeof locked);
+        vme_count_increment(vme_data_of(waiter)); /* its lock is free again */
+        if (result == VME_OK)
             vme_count_increment(vme_words_of(waiter));
-        if (freed != VME_OK || (result != VME_FULL && result != VME_EMPTY))
-            return freed != VME_OK ? freed : result;
-        if (!vme_wait(waiter, vme_words_of(waiter), value, &tries))
+        if ((result != VME_FULL && result != VME_EMPTY) || !vme_wait(waiter, vme_words_of(waiter), words, &moved))
             return result;
     }
 }
 
 /* Puts a word into a mailbox, and waits until there is a slot. Returns VME_FULL if the waiter's limit is reached, VME_SPENT after
- * 2^32 - 1 words, and else what vme_lock does. */
+ * 2^32 - 1 words, VME_C13 if the mailbox is not lawful, and else what vme_lock does. After VME_BUSY or VME_NOT_GRANTED the put goes on:
+ * vme_finish_tenures continues it. */
 static inline uint8_t vme_put(vme_processor *p, const vme_waiter *waiter, const vme_mailbox *box, uint32_t word)
 {
-    return vme_use_mailbox(p, waiter, box, 1, &word);
+    return vme_use_mailbox(p, waiter, box, &word);
 }
 
 /* Takes the oldest word of a mailbox, and waits until there is one. Returns VME_EMPTY if the waiter's limit is reached, and else what
- * vme_lock does. */
+ * vme_put does. */
 static inline uint8_t vme_take(vme_processor *p, const vme_waiter *waiter, const vme_mailbox *box, uint32_t *word)
 {
-    return vme_use_mailbox(p, waiter, box, 0, word);
+    const uint8_t result = vme_use_mailbox(p, waiter, box, NULL);
+    return result == VME_OK ? vme_processor_word(p, word) : result;
 }
 
 #ifdef __cplusplus

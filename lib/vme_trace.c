@@ -28,8 +28,14 @@ UNTRACED(processor_try_local_modify);
 UNTRACED(processor_start_read);
 UNTRACED(processor_start_write);
 UNTRACED(processor_start_modify);
-UNTRACED(processor_step);
+UNTRACED(processor_step_reply);
 UNTRACED(processor_bytes);
+UNTRACED(processor_start_lock);
+UNTRACED(processor_start_unlock);
+UNTRACED(processor_start_put);
+UNTRACED(processor_start_take);
+UNTRACED(processor_word);
+UNTRACED(processor_transfer);
 
 /* The log of a machine. */
 typedef struct log {
@@ -53,6 +59,7 @@ typedef struct traced {
     uint16_t slot;
     uint16_t data; /* how many events of the transfer's board there were */
     uint8_t is_running, has_bus;
+    uint8_t has_moved; /* a datum of a lock or a mailbox, since the bus was granted */
     vme_request request;
     uint8_t bytes[MOST_BYTES]; /* of a write */
     place places[MOST_DATA];
@@ -184,8 +191,8 @@ static int has_halves(const traced *own)
     return own->request.kind == VME_MODIFY;
 }
 
-/* Takes the place of the next datum. */
-static void reserve(traced *own)
+/* Takes the place of the next datum, whose events have so many lines. */
+static void reserve(traced *own, int count)
 {
     char lines[2 * LINE];
     place *next = &own->places[own->data];
@@ -194,7 +201,7 @@ static void reserve(traced *own)
     fill(lines, sprintf(lines, "# a datum of slot %u, whose transfer has not ended", own->slot));
     fill(lines + LINE, sprintf(lines + LINE, "#"));
     next->time = now() - own->to->opened;
-    next->at = append(own->to, lines, has_halves(own) ? 2 * LINE : LINE);
+    next->at = append(own->to, lines, (size_t)count * LINE);
     own->data++;
 }
 
@@ -229,7 +236,7 @@ static void write_transfer(traced *own, uint8_t result)
     size_t count = 0;
     const int is_berr = result != VME_OK;
     if (result == VME_NO_BOARD && own->data == 0)
-        reserve(own);
+        reserve(own, 1);
     if (own->data && untraced_vme_processor_bytes(&own->own, moved, sizeof moved, &count) != VME_OK)
         give_up(own->to, "the bytes of a transfer cannot be read");
     for (unsigned i = 0; i < own->data; i++)
@@ -534,7 +541,7 @@ uint8_t vme_processor_start_modify(vme_processor *p, const vme_request *request,
 static void log_step(traced *own, uint8_t result)
 {
     if (result == VME_MORE && own->has_bus)
-        reserve(own);
+        reserve(own, has_halves(own) ? 2 : 1);
     else if (result == VME_MORE)
         own->has_bus = 1;
     else if (result == VME_OK || result == VME_BERR || result == VME_NO_BOARD)
@@ -543,21 +550,93 @@ static void log_step(traced *own, uint8_t result)
         own->is_running = 0;
 }
 
-uint8_t vme_processor_step(vme_processor *p)
+/* Logs the datum of a transfer of a lock or a mailbox, which moved these bytes unless it had a bus error. */
+static void log_datum(traced *own, const vme_datum *moved, int is_berr)
+{
+    own->data = 0;
+    reserve(own, has_halves(own) && !is_berr ? 2 : 1);
+    write_datum(own, 0, moved->bytes, is_berr);
+}
+
+/* Logs what a step of a lock, an unlock, a put or a take did, by its reply and the bytes of the reply. */
+static void log_reply(traced *own, uint8_t reply, const vme_datum *moved)
+{
+    if (reply == VME_OK || reply == VME_BERR)
+        log_datum(own, moved, reply == VME_BERR);
+    else if (reply == VME_BUS_FREED && !own->has_moved)
+        log_datum(own, moved, 1);
+    if (reply != VME_BUSY && reply != VME_SPENT)
+        own->has_moved = reply == VME_OK || reply == VME_BERR;
+}
+
+/* Notes the transfer at which a lock, an unlock, a put or a take is. Returns whether there is one. */
+static int note_shared(traced *own)
+{
+    vme_request request;
+    vme_datum written = { 0, { 0 } };
+    if (untraced_vme_processor_transfer(&own->own, &request, &written) != VME_OK)
+        return 0;
+    own->request = request;
+    memcpy(own->bytes, written.bytes, sizeof written.bytes);
+    return 1;
+}
+
+uint8_t vme_processor_step_reply(vme_processor *p, uint8_t *reply, vme_datum *bytes)
 {
     traced *own = of(p);
     if (!own)
         return VME_CLOSED;
-    const int is_logged = enter(own->to);
-    const uint8_t result = untraced_vme_processor_step(&own->own);
-    if (is_logged && own->is_running)
+    const int is_logged = enter(own->to), is_shared = is_logged && note_shared(own);
+    const uint8_t result = untraced_vme_processor_step_reply(&own->own, reply, bytes);
+    if (is_shared)
+        log_reply(own, *reply, bytes);
+    else if (is_logged && own->is_running)
         log_step(own, result);
     if (is_logged)
         leave(own->to);
     return result;
 }
 
+uint8_t vme_processor_step(vme_processor *p)
+{
+    uint8_t reply = VME_BAD_CALL;
+    vme_datum bytes = { 0, { 0 } };
+    return vme_processor_step_reply(p, &reply, &bytes);
+}
+
 uint8_t vme_processor_bytes(vme_processor *p, uint8_t *out, size_t size, size_t *count)
 {
     return p->full ? untraced_vme_processor_bytes(&of(p)->own, out, size, count) : (uint8_t)VME_CLOSED;
+}
+
+/* ---- Locks and mailboxes ---- */
+
+uint8_t vme_processor_start_lock(vme_processor *p, uint8_t am, uint32_t addr)
+{
+    return p->full ? untraced_vme_processor_start_lock(&of(p)->own, am, addr) : (uint8_t)VME_CLOSED;
+}
+
+uint8_t vme_processor_start_unlock(vme_processor *p, uint8_t am, uint32_t addr)
+{
+    return p->full ? untraced_vme_processor_start_unlock(&of(p)->own, am, addr) : (uint8_t)VME_CLOSED;
+}
+
+uint8_t vme_processor_start_put(vme_processor *p, const vme_mailbox *box, uint32_t word)
+{
+    return p->full ? untraced_vme_processor_start_put(&of(p)->own, box, word) : (uint8_t)VME_CLOSED;
+}
+
+uint8_t vme_processor_start_take(vme_processor *p, const vme_mailbox *box)
+{
+    return p->full ? untraced_vme_processor_start_take(&of(p)->own, box) : (uint8_t)VME_CLOSED;
+}
+
+uint8_t vme_processor_word(vme_processor *p, uint32_t *word)
+{
+    return p->full ? untraced_vme_processor_word(&of(p)->own, word) : (uint8_t)VME_CLOSED;
+}
+
+uint8_t vme_processor_transfer(vme_processor *p, vme_request *request, vme_datum *bytes)
+{
+    return p->full ? untraced_vme_processor_transfer(&of(p)->own, request, bytes) : (uint8_t)VME_CLOSED;
 }

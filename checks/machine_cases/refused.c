@@ -1,6 +1,7 @@
 /* Each allocation of open, of load, of the start of a block write, of the start of a block read and of close is refused in turn, by an
    allocator of this program's own. A refused open or load gives VME_NO_MEMORY, no processor, and all its memory back, as does a file that
-   is refused; a refused start or close leaves the machine as it was. No event allocates, and no start of another transfer. */
+   is refused; a refused start or close leaves the machine as it was. No event allocates, and no start of another transfer, of a lock
+   or of a mailbox. */
 #include "cases.h"
 #include "vme_alloc.h"
 
@@ -136,7 +137,9 @@ int main(void)
 {
     vme_processor all[COUNT];
     const vme_datum datum = { 4, { 1, 2, 3, 4 } };
+    const vme_mailbox box = { address(1, 64), 4, AM };
     vme_datum out = { 0, { 0 } };
+    uint32_t word;
     long loaded = 0;
     memset(all, 0, sizeof all);
     if (load_text("", all) != VME_BAD_STATE) { /* not the double, which reads no file */
@@ -162,8 +165,11 @@ int main(void)
         want("write", vme_processor_try_local_write(&all[i % COUNT], 8, &datum), VME_OK);
         want("read", vme_processor_try_local_read(&all[i % COUNT], 8, 4, &out), VME_OK);
     }
-    for (int i = 0; i < 100; i++)
+    for (int i = 0; i < 100; i++) {
         set(&all[i % COUNT], address(1, 16), 4, get(&all[(i + 1) % COUNT], address(2, 8), 4));
+        want("put", vme_put(&all[i % COUNT], &waiter, &box, 1), VME_OK);
+        want("take", vme_take(&all[(i + 1) % COUNT], &waiter, &box, &word), VME_OK);
+    }
     if (asked) {
         fprintf(stderr, "%ld allocations in events\n", asked);
         return 1;

@@ -169,6 +169,18 @@ class MachineTest(unittest.TestCase):
             self.assertRaises(TimeoutError, first.put, box, 3)
             self.assertEqual([second.take(box), second.take(box)], [1, 0xFFFFFFFF])
             self.assertRaises(TimeoutError, second.take, box)
+            second.lock(AM, address(1, 0))
+            self.assertRaises(TimeoutError, first.put, box, 3)
+            second.unlock(AM, address(1, 0))
+            first.put(box, 4)
+            self.assertEqual(second.take(box), 4)
+            self.has_result(MachineResult.C13, first.put, Mailbox(AM, address(1, 2), 2), 1)
+            self.has_result(MachineResult.C13, first.take, Mailbox(AM, address(1, 0), 65))
+            self.has_result(Result.K5, first.put, Mailbox(BLOCK_AM, address(1, 0), 2), 1)
+            self.assertRaises(BusError, first.put, Mailbox(AM, address(1, 48), 2), 1)
+            self.assertRaises(NoBoard, first.take, Mailbox(AM, address(7, 0), 2))
+            self.assertRaises(ValueError, first.put, box, 2**32)
+            self.assertRaises(ValueError, first.take, Mailbox(AM, -4, 2))
 
     def test_a_processor_of_two_threads(self) -> None:
         with Machine(boards(2)) as machine:

@@ -12,6 +12,7 @@ use Rattle.vme_port_array.specs.Arrays.{opening, passes_of}
 use Rattle.vme_port_array.specs.Calls.{Adds}
 use Rattle.vme_port_array.specs.Parts.{indexed, part}
 use Rattle.vme_processor.specs.declared.processor.Processor.{Processor}
+use Rattle.vme_processor.specs.Processors.{KeepsPlace}
 use Rattle.vme_machine_ffi.specs.declared.calls.Called.{Called}
 use Rattle.vme_machine_ffi.specs.declared.calls.Called.TheVariants as called
 use Rattle.vme_c_types.specs.declared.datum.VmeDatum.{VmeDatum}
@@ -43,11 +44,13 @@ Writes called.Busy old new = new ≡ old
 Writes called.Spent old new = new ≡ old
 Writes called.Closed old new = new ≡ old
 
--- a processor after a call: it is of the same machine, and of the same board
+-- a processor after a call: it is of the same machine and board, and so is what it does over the bus
 pub record IsSame (p q : Processor) : Type 0 where
   pub machine : arc_value q.member.array ≡ arc_value p.member.array
   pub boards : q.boards ≡ p.boards
   pub index : q.index ≡ p.index
+  pub place : KeepsPlace p q
+  pub task : q.task ≡ p.task
 
 -- one event: the call adds one entry of this command to the processor's board, with the reply, after all that the
 -- processor had seen

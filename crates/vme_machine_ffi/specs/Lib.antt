@@ -8,3 +8,5 @@ pub mod Openings
 pub mod Files
 pub mod Requests
 pub mod Transfers
+pub mod Shared
+pub mod Steps

@@ -1,6 +1,5 @@
 -- Defines the transfers of C over the bus.
 use Rattle.std.specs.Prelude.{ℕ, ◌≡◌, ◌⊎◌, ◌<◌, ◌≤◌, List, [], ◌++◌, length, drop, Option, Some, None, Result, Ok, Err}
-use Rattle.std.specs.Arc.{arc_value}
 use Rattle.vme_cycle.specs.declared.request.Request.{Request}
 use Rattle.vme_arbiter.specs.declared.command.ArbReply.TheVariants.{Granted, Waiting, Denied, Freed}
 use Rattle.vme_core.specs.declared.event.EventReply.{EventReply}
@@ -10,9 +9,8 @@ use Rattle.vme_master.specs.declared.outcome.Outcome.TheVariants as outcomes
 use Rattle.vme_processor.specs.declared.processor.Processor.{Processor}
 use Rattle.vme_processor.specs.declared.transfer.StartFault.{StartFault}
 use Rattle.vme_processor.specs.declared.transfer.StartFault.TheVariants.{Running, OutOfMemory, Refused}
-use Rattle.vme_processor.specs.declared.transfer.StepFault.{StepFault}
-use Rattle.vme_processor.specs.declared.transfer.StepFault.TheVariants.{Busy, Spent, NoBoard}
-use Rattle.vme_processor.specs.Transfers.{WasBusy, Steps, Starts, IsWhy, outcome_of}
+use Rattle.vme_processor.specs.Processors.{KeepsPlace}
+use Rattle.vme_processor.specs.Transfers.{Starts, IsWhy}
 use Rattle.vme_c_types.specs.Results as numbers
 use Rattle.vme_machine_ffi.specs.Results as results
 
@@ -29,9 +27,15 @@ pub record StartsNot (request : Request) (result : ℕ) (p q : Processor) : Type
   pub number : result ≡ start_number fault
   pub unchanged : q ≡ p
 
+-- a start that succeeds
+pub record StartsOk (request : Request) (result : ℕ) (p q : Processor) : Type 0 where
+  pub number : result ≡ numbers.ok
+  pub started : Starts request p q
+  pub place : KeepsPlace p q
+
 -- a start of a request, or of none because of a number
 abbrev pub StartsAs : Result Request ℕ → ℕ → Processor → Processor → Type 0
-StartsAs (Ok request) result p q = ((result ≡ numbers.ok) × Starts request p q) ⊎ StartsNot request result p q
+StartsAs (Ok request) result p q = StartsOk request result p q ⊎ StartsNot request result p q
 StartsAs (Err number) result p q = (result ≡ number) × (q ≡ p)
 
 -- the number of a step after which a transfer goes on, by the reply to its event
@@ -51,28 +55,6 @@ Ends (Some (outcomes.Old bytes)) reply result = result ≡ numbers.ok
 Ends (Some (outcomes.Berr count bytes)) reply result = (result ≡ numbers.bus_error) ⊎ (result ≡ numbers.no_board)
 Ends (Some outcomes.Denied) reply result = result ≡ results.denied
 Ends None reply result = Continues reply result
-
--- the number of a step of a processor
-abbrev pub HasNumber : Result (Option EventReply) StepFault → Processor → ℕ → Type 0
-HasNumber (Ok reply) q result = Ends (outcome_of q) reply result
-HasNumber (Err Busy) q result = result ≡ results.busy
-HasNumber (Err Spent) q result = result ≡ results.spent
-HasNumber (Err NoBoard) q result = result ≡ results.bad_state
-
--- what a step did: one event of the transfer, or none; after a fault the transfer is unchanged
-abbrev pub Did : Result (Option EventReply) StepFault → Processor → Processor → Type 0
-Did (Ok (Some reply)) p q = Steps reply p q
-Did (Ok None) p q = (q.member ≡ p.member) × (q.task ≡ p.task)
-Did (Err Busy) p q = WasBusy p.member q.member × (q.task ≡ p.task)
-Did (Err Spent) p q = q.task ≡ p.task
-Did (Err NoBoard) p q = q.task ≡ p.task
-
--- one step of an open processor
-pub record StepsAs (result : ℕ) (p q : Processor) : Type 0 where
-  pub stepped : Result (Option EventReply) StepFault
-  pub did : Did stepped p q
-  pub machine : arc_value q.member.array ≡ arc_value p.member.array
-  pub number : HasNumber stepped q result
 
 -- the bytes of an outcome, if there is one
 abbrev pub bytes_of : Option Outcome → List ℕ

@@ -32,7 +32,7 @@ pub(crate) enum Called {
 }
 
 /// The number of a reply.
-fn reply_number(reply: &EventReply) -> u8
+pub(crate) fn reply_number(reply: &EventReply) -> u8
     ensures { result ≡ number_of (Called.Reply reply.now) }
 {
     match reply {

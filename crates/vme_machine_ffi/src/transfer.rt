@@ -4,23 +4,19 @@ ghost use Rattle.vme_cycle.specs.declared.request.Request.{Request as AnyRequest
 ghost use Rattle.vme_processor.specs.Transfers.{outcome_of};
 ghost use Rattle.vme_machine_ffi.specs.Requests.{read_request, modify_request, AsksWrite};
 ghost use Rattle.vme_machine_ffi.specs.Results.{closed};
-ghost use Rattle.vme_machine_ffi.specs.Transfers.{StartsAs, StepsAs, Ends, Copies, bytes_of, start_number};
+ghost use Rattle.vme_machine_ffi.specs.Transfers.{StartsAs, Copies, bytes_of, start_number};
 
 use crate::handle::VmeProcessor;
 use crate::request::{modify_request, read_request, write_request};
-use crate::results::{BAD_STATE, BUSY, CLOSED, DENIED, MORE, SPENT, WAITING};
+use crate::results::CLOSED;
 use std::alloc::Global;
-use vme_arbiter::ArbReply;
-use vme_c_types::{
-    BAD_CALL, BUS_ERROR, NO_BOARD, NO_MEMORY, OK, VmeModify, VmeRequest, refusal_number,
-};
-use vme_core::EventReply;
+use vme_c_types::{BAD_CALL, NO_MEMORY, OK, VmeModify, VmeRequest, refusal_number};
 use vme_cycle::Request;
 use vme_master::OutcomeRef;
-use vme_processor::{Processor, StartFault, StepFault};
+use vme_processor::{Processor, StartFault};
 
 /// The number of a start that fails.
-fn start_number(fault: StartFault) -> u8
+pub(crate) fn start_number(fault: StartFault) -> u8
     ensures { result ≡ start_number fault }
 {
     match fault {
@@ -59,8 +55,8 @@ fn start(alloc: Global, p: &mut VmeProcessor, request: Result<Request, u8>) -> u
 }
 
 /// Starts a read over the bus: IEEE 1014-1987, 2.3.6 (basic data transfer) and 2.3.7 (block
-/// transfer). Returns `OK`; K1 to K9, the first refusal of the request; `BAD_CALL` if the last
-/// transfer has not ended; `NO_MEMORY` if a request that reads more than 40 bytes gets no buffer; or
+/// transfer). Returns `OK`; K1 to K9, the first refusal of the request; `BAD_CALL` if what
+/// the processor does over the bus has not ended; `NO_MEMORY` if a request that reads more than 40 bytes gets no buffer; or
 /// `CLOSED`.
 #[unsafe(no_mangle)]
 pub extern "C" fn vme_processor_start_read(
@@ -109,57 +105,6 @@ pub extern "C" fn vme_processor_start_modify(
         StartsAs (Ok (modify_request r.now f.now)) result a b)) }
 {
     start(alloc, p, Ok(modify_request(r, f)))
-}
-
-/// The number of a step without a fault, by the reply to its event.
-fn progress(processor: &Processor, reply: &Option<EventReply>) -> u8
-    ensures { Ends (outcome_of processor.now) reply.now result }
-{
-    match processor.outcome() {
-        Some(OutcomeRef::Read(_)) => OK,
-        Some(OutcomeRef::Done) => OK,
-        Some(OutcomeRef::Old(_)) => OK,
-        Some(OutcomeRef::Berr { .. }) if processor.selects_a_board() => BUS_ERROR,
-        Some(OutcomeRef::Berr { .. }) => NO_BOARD,
-        Some(OutcomeRef::Denied) => DENIED,
-        None => match reply {
-            None => BAD_CALL,
-            Some(EventReply::Bus(ArbReply::Waiting)) => WAITING,
-            Some(_) => MORE,
-        },
-    }
-}
-
-/// Performs the next event of a processor's transfer, and returns the number of the step.
-fn step(processor: &mut Processor) -> u8
-    ensures { StepsAs result processor.old processor.new }
-{
-    match processor.step() {
-        Ok(Some(reply)) => progress(processor, &Some(reply)),
-        Ok(None) => progress(processor, &None),
-        Err(StepFault::Busy) => BUSY,
-        Err(StepFault::Spent) => SPENT,
-        Err(StepFault::NoBoard) => BAD_STATE,
-    }
-}
-
-/// Performs the next event of the transfer, if no other processor holds its object. Returns `BUSY`,
-/// and nothing has happened; `WAITING` if the arbiter has not granted the bus; `MORE` if the
-/// transfer goes on; and at its end, with the bus released, `OK`, `BUS_ERROR`, `NO_BOARD` or, if a
-/// command was denied, `DENIED`. After the end it returns the end again. Returns `BAD_CALL` without a
-/// transfer; `SPENT`, `BAD_STATE` or `CLOSED`.
-#[unsafe(no_mangle)]
-pub extern "C" fn vme_processor_step(alloc: Global, p: &mut VmeProcessor) -> u8
-    ensures closed { IfNone p.old.handle.value ((result ≡ closed) × (p.new.handle.value ≡ None)) }
-    ensures stays { IfSome p.old.handle.value (λ a. IsSome p.new.handle.value) }
-    ensures open { IfSome p.old.handle.value (λ a. IfSome p.new.handle.value (λ b. StepsAs result a b)) }
-{
-    let Some(mut processor) = p.take(alloc) else {
-        return CLOSED;
-    };
-    let result = step(&mut processor);
-    *p = VmeProcessor::of(processor);
-    result
 }
 
 /// The bytes of the outcome, if there is one.

@@ -5,7 +5,9 @@ mod closing;
 mod local_read;
 mod opening;
 mod processor;
+mod shared;
 mod transfer;
+mod work;
 
 pub use closing::{are_all_of_one, close};
 pub use local_read::LocalRead;

@@ -7,6 +7,7 @@ ghost use Rattle.vme_port_array.specs.Calls.{entries_of, Adds};
 ghost use Rattle.vme_bus_objects.specs.declared.command.BusCommand.TheVariants as commands;
 ghost use Rattle.vme_bus_objects.specs.Objects.{bus_object_step};
 
+use crate::work::Work;
 use std::alloc::Global;
 use std::sync::Arc;
 use std::sync::atomic::AtomicU64;
@@ -14,7 +15,6 @@ use vme_bus_objects::{BoardOperation, BusObject};
 use vme_core::EventReply;
 use vme_decode::AddressMap;
 use vme_machine::Member;
-use vme_master::Task;
 use vme_memory::ByteMemory;
 use vme_object::Operation;
 use vme_port::TryFault;
@@ -35,8 +35,8 @@ pub struct Processor {
     pub(crate) slot: u16,
     /// The level of these requests.
     pub(crate) level: u8,
-    /// Its last transfer over the bus, if it has started one.
-    pub(crate) task: Option<Task<'static>>,
+    /// What it does over the bus, or has done last, if it has started anything.
+    pub(crate) task: Option<Work>,
     ghost objects: { objects_of (arc_value member.array) ≡ boards + 1 },
     ghost own: { index < boards },
 }
@@ -56,6 +56,8 @@ impl Processor {
         ensures boards { self.new.boards ≡ self.old.boards }
         ensures index { self.new.index ≡ self.old.index }
         ensures task { self.new.task ≡ self.old.task }
+        ensures map { arc_value self.new.map ≡ arc_value self.old.map }
+        ensures place { (self.new.slot ≡ self.old.slot) × (self.new.level ≡ self.old.level) }
         ensures adds { UnlessBusy result
             (Adds bus_object_step (opening (arc_value self.old.member.array))
             (entries_of self.old.member.pass.who self.old.index (commands.Board (A.command operation.now)) result)

@@ -6,7 +6,7 @@ import threading
 import time
 from collections.abc import Callable, Iterator, Sequence
 from contextlib import ExitStack, contextmanager
-from ctypes import byref, c_size_t, c_uint8, c_uint64
+from ctypes import byref, c_size_t, c_uint8, c_uint32, c_uint64
 from dataclasses import dataclass, field
 from itertools import accumulate
 from types import TracebackType
@@ -17,6 +17,7 @@ from .machine_library import (
     BoardStruct,
     LoadedStruct,
     MachineResult,
+    MailboxStruct,
     ProcessorStruct,
     machine_lib,
     require_machine,
@@ -52,12 +53,15 @@ class MachineBoard:
 
 @dataclass(frozen=True)
 class Mailbox:
-    """A queue of words in the memory of a board: a lock byte at `addr`, the number of words put at 4 and taken at 8, and the words from
-    16. At first its 16 + 4 * `slots` bytes are zeros."""
+    """A queue of 1 to 64 words in the memory of a board: a lock byte at `addr`, a multiple of 4, the number of words put at 4 and taken
+    at 8, and the words from 16. At first its 16 + 4 * `slots` bytes are zeros."""
 
     am: int
     addr: int
     slots: int
+
+    def _struct(self) -> MailboxStruct:
+        return MailboxStruct(self.addr, self.slots, self.am)
 
 
 @dataclass(frozen=True)
@@ -98,7 +102,7 @@ class Processor:
 
     def __init__(self, struct: ProcessorStruct, releases: _Releases, limit: int) -> None:
         self._own, self._releases, self._limit = struct, releases, limit
-        self._lib, self._is_used = machine_lib(), threading.Lock()
+        self._lib, self._is_used, self._word = machine_lib(), threading.Lock(), c_uint32()
 
     # ---- The local port of its own board ----
 
@@ -149,7 +153,9 @@ class Processor:
         with self._alone():
             request = RequestStruct(addr, 0, am, RequestKind.READ, 1)
             require_machine(self._lib.processor_start_read(byref(self._own), byref(request)))
-            self._step(until_granted=True)
+            result = self._run(until_granted=True)
+            if result != MachineResult.MORE:
+                require_machine(result)
         try:
             yield
         finally:
@@ -160,9 +166,11 @@ class Processor:
 
     def try_lock(self, am: int, addr: int) -> bool:
         """Tries once to take the lock in bit 7 of a byte. Returns whether this processor has it now."""
-        set_bit = RequestStruct(addr, 0, am, RequestKind.MODIFY, 1, Modify.of(Function.SET))
         # No lock becomes free, so no thread that waits for one is woken.
-        return self._transfer(set_bit, wakes=False)[0] & 0x80 == 0
+        result = self._end(lambda own: self._lib.processor_start_lock(own, am, addr), wakes=False)
+        if result != MachineResult.HELD:
+            require_machine(result)
+        return result != MachineResult.HELD
 
     def lock(self, am: int, addr: int) -> None:
         """Takes the lock at an address, and waits until it is free."""
@@ -170,44 +178,47 @@ class Processor:
 
     def unlock(self, am: int, addr: int) -> None:
         """Gives the lock at an address back: clears its byte."""
-        self.write(am, addr, b"\0")
+        require_machine(self._end(lambda own: self._lib.processor_start_unlock(own, am, addr)))
 
     def put(self, box: Mailbox, word: int) -> None:
         """Puts a word of 32 bits into a mailbox, and waits until there is a slot."""
-        data = word.to_bytes(4, "big")
-        self._until("words", lambda: self._moves(box, 4, data) is not None)
+        struct = box._struct()
+        self._move(lambda own: self._lib.processor_start_put(own, byref(struct), word), MachineResult.FULL)
 
     def take(self, box: Mailbox) -> int:
         """Takes the oldest word of a mailbox, and waits until there is one."""
-        taken: list[bytes] = []
+        struct = box._struct()
+        return self._move(lambda own: self._lib.processor_start_take(own, byref(struct)), MachineResult.EMPTY)
 
-        def take() -> bool:
-            data = self._moves(box, 8, None)
-            taken.extend([] if data is None else [data])
-            return bool(taken)
+    def _move(self, start: Callable[[object], int], without: MachineResult) -> int:
+        """Makes puts or takes until one has moved a word. Returns the word of a take. The lock that another processor has is tried
+        again, and so is a mailbox that is full or empty."""
+        ends: list[int] = []
 
-        self._until("words", take)
-        return int.from_bytes(taken[0], "big")
+        def unlocked() -> bool:
+            ends[:] = [self._end(start)]
+            return ends[0] != MachineResult.HELD
 
-    def _moves(self, box: Mailbox, index: int, new: bytes | None) -> bytes | None:
-        """Moves a word into a mailbox, or out of it, if there is a slot or a word. Returns it."""
-        self.lock(box.am, box.addr)
-        try:
-            counts = {at: int.from_bytes(self.read(box.am, box.addr + at, 4), "big") for at in (4, 8)}
-            words = counts[4] - counts[8]
-            if words >= box.slots if new is not None else words == 0:
-                return None
-            if new is not None and counts[4] == 2**32 - 1:
-                raise VmeError(MachineResult.SPENT)
-            place = box.addr + 16 + 4 * (counts[index] % box.slots)
-            data = self.read(box.am, place, 4) if new is None else new
-            if new is not None:
-                self.write(box.am, place, new)
-            self.write(box.am, box.addr + index, (counts[index] + 1).to_bytes(4, "big"))
-        finally:
-            self.unlock(box.am, box.addr)
-        self._releases.increment("words")
-        return data
+        def moved() -> bool:
+            self._until("data", unlocked)
+            if ends[0] != without:
+                require_machine(ends[0])
+                self._releases.increment("words")
+            return ends[0] != without
+
+        self._until("words", moved)
+        return self._word.value
+
+    def _end(self, start: Callable[[object], int], *, wakes: bool = True) -> int:
+        """Starts a lock, an unlock, a put or a take, and steps it until it ends. Returns its result, and keeps the word of a take.
+        `wakes` says whether it may have given a lock back."""
+        with self._alone():
+            require_machine(start(byref(self._own)))
+            result = self._run()
+            self._lib.processor_word(byref(self._own), byref(self._word))
+        if wakes and result != MachineResult.HELD:
+            self._releases.increment("data")
+        return result
 
     # ---- How it waits ----
 
@@ -254,19 +265,22 @@ class Processor:
         with self._alone():
             require_machine(self._try(call))
 
-    def _step(self, until_granted: bool = False) -> None:
-        """Steps a transfer until it has the bus, or until it ends."""
-        while (result := self._try(lambda: self._lib.processor_step(byref(self._own)))) == MachineResult.MORE:
-            if until_granted:
-                return
-        require_machine(result)
+    def _run(self, until_granted: bool = False) -> int:
+        """Steps what was started until it has the bus, or until it ends, and wakes those that wait for the bus at each release. Returns
+        the result of the last step."""
+        reply, moved = c_uint8(), Datum()
+        while True:
+            result = self._try(lambda: self._lib.processor_step_reply(byref(self._own), byref(reply), byref(moved)))
+            if reply.value == MachineResult.BUS_FREED:
+                self._releases.increment("bus")
+            if result != MachineResult.MORE or until_granted:
+                return result
 
     def _finish(self, wakes: bool) -> None:
         """Steps a transfer until it ends. `wakes` says whether it may have written what others wait for."""
         try:
-            self._step()
+            require_machine(self._run())
         finally:
-            self._releases.increment("bus")
             if wakes:
                 self._releases.increment("data")
 

@@ -36,12 +36,17 @@ class MachineResult(IntEnum):
     C13 = 0x1D
     C14 = 0x1E
     NO_MEMORY = 0x25
+    BUS_GRANTED = 0x30
     NOT_GRANTED = 0x31
     BUS_DENIED = 0x32
+    BUS_FREED = 0x33
     MORE = 0x34
     BUSY = 0x50
     CLOSED = 0x51
     SPENT = 0x52
+    HELD = 0x53
+    FULL = 0x54
+    EMPTY = 0x55
 
 
 class ProcessorStruct(Record):
@@ -62,9 +67,16 @@ class LoadedStruct(Record):
     _fields_ = [("count", c_size_t), ("slot", c_uint16), ("line", c_uint16), ("arbiter", c_uint8), ("script", c_uint8)]
 
 
+class MailboxStruct(Record):
+    """A queue of words in the memory of a board."""
+
+    _fields_ = [("addr", c_uint32), ("slots", c_uint16), ("am", c_uint8)]
+
+
 _OWN_RESULTS = frozenset(MachineResult)
 _OWN = POINTER(ProcessorStruct)
 _OFFSET, _BYTE_COUNT = Number("at", c_uint32), Number("n", c_uint8)
+_AM, _ADDR = Number("am", c_uint8), Number("addr", c_uint32)
 
 # By name, without vme_: the type of the result, and those of the arguments.
 MACHINE_SIGNATURES: dict[str, tuple] = {
@@ -81,7 +93,14 @@ MACHINE_SIGNATURES: dict[str, tuple] = {
     "processor_start_write": (c_uint8, _OWN, POINTER(RequestStruct), POINTER(c_uint8), c_size_t),
     "processor_start_modify": (c_uint8, _OWN, POINTER(RequestStruct), POINTER(Modify)),
     "processor_step": (c_uint8, _OWN),
+    "processor_step_reply": (c_uint8, _OWN, POINTER(c_uint8), POINTER(Datum)),
     "processor_bytes": (c_uint8, _OWN, POINTER(c_uint8), c_size_t, POINTER(c_size_t)),
+    "processor_start_lock": (c_uint8, _OWN, _AM, _ADDR),
+    "processor_start_unlock": (c_uint8, _OWN, _AM, _ADDR),
+    "processor_start_put": (c_uint8, _OWN, POINTER(MailboxStruct), Number("word", c_uint32)),
+    "processor_start_take": (c_uint8, _OWN, POINTER(MailboxStruct)),
+    "processor_word": (c_uint8, _OWN, POINTER(c_uint32)),
+    "processor_transfer": (c_uint8, _OWN, POINTER(RequestStruct), POINTER(Datum)),
 }
 
 NAME = "libvme_machine.so.1"
