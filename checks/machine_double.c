@@ -67,6 +67,9 @@ static void give(struct object *object)
     __atomic_store_n(&object->taken, 0, __ATOMIC_RELEASE);
 }
 
+/* Takes an object as a call of another processor does, or frees it again: board i, or the arbiter if i is the number of boards. */
+void machine_double_hold(vme_processor *p, size_t i, int is_held);
+
 static void free_machine(struct machine *machine)
 {
     for (size_t i = 0; i < machine->count; i++)
@@ -78,6 +81,12 @@ static void free_machine(struct machine *machine)
 static struct processor *of(vme_processor *p)
 {
     return p->full ? (struct processor *)p->hidden : NULL;
+}
+
+void machine_double_hold(vme_processor *p, size_t i, int is_held)
+{
+    struct machine *machine = of(p)->machine;
+    __atomic_store_n(i < machine->count ? &machine->boards[i].taken : &machine->bus.taken, (uint32_t)is_held, __ATOMIC_SEQ_CST);
 }
 
 /* ---- Machines ---- */

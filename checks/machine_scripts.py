@@ -124,7 +124,6 @@ class Scripts:
 
     def summary(self) -> str:
         """What was run and found."""
-        expect(len(self.seen) > len(self.files), "no file has several outcomes")
         listed = sum(len(it.outcomes) for it in self.files)
         return (f"the scripts of {len(self.files)} files with {len(self.seen)} of their {listed} outcomes in {self.runs} runs"
                 + "".join(f", but not {it}, which has more than {STATES} states" for it in self.left))

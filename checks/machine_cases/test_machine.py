@@ -185,26 +185,27 @@ class MachineTest(unittest.TestCase):
     def test_a_processor_of_two_threads(self) -> None:
         with Machine(boards(2)) as machine:
             first, second = machine.processors
-            second.lock(AM, address(1, 0))
-            faults: list[Exception] = []
-            started = threading.Event()
 
             def use() -> None:
-                """Calls until another thread has met this one inside."""
-                started.set()
-                while not faults:
+                """Reads over the bus, as soon as no other thread is inside: it then waits inside until the bus is free."""
+                while True:
                     try:
-                        first.try_lock(AM, address(1, 0))
-                    except RuntimeError as fault:
-                        faults.append(fault)
+                        first.read(AM, address(1, 0), 4)
+                        return
+                    except RuntimeError:
+                        time.sleep(0)
 
-            threads = [threading.Thread(target=use) for _ in range(2)]
-            for thread in threads:
+            thread, fault = threading.Thread(target=use), None
+            with second.has_bus(AM, address(1, 0)):
                 thread.start()
-            started.wait()
-            while any(it.is_alive() for it in threads):
-                time.sleep(0.001)
-            self.assertIn("one thread at a time", str(faults[0]))
+                while fault is None:
+                    try:
+                        first.local_read(0, 4)
+                        time.sleep(0.001)
+                    except RuntimeError as error:
+                        fault = error
+            thread.join()
+            self.assertIn("one thread at a time", str(fault))
 
 
 if __name__ == "__main__":
