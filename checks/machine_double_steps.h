@@ -202,4 +202,14 @@ uint8_t vme_processor_step(vme_processor *p)
     return vme_processor_step_reply(p, &reply, &bytes);
 }
 
+uint8_t vme_processor_run(vme_processor *p)
+{
+    uint8_t result, reply = VME_BAD_CALL;
+    vme_datum bytes;
+    do {
+        result = vme_processor_step_reply(p, &reply, &bytes);
+    } while (result == VME_MORE && reply != VME_BUS_FREED);
+    return result;
+}
+
 #endif

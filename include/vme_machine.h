@@ -170,6 +170,11 @@ uint8_t vme_processor_step(vme_processor *p);
  * bytes. */
 uint8_t vme_processor_step_reply(vme_processor *p, uint8_t *reply, vme_datum *bytes);
 
+/* Makes steps as vme_processor_step does, one after another, without a call for each. Stops after a step whose result is the end,
+ * VME_NOT_GRANTED, VME_BUSY or VME_SPENT, and after one that has released the bus: a put or a take may return VME_MORE then.
+ * Returns the result of the last step, and fails as a step does. */
+uint8_t vme_processor_run(vme_processor *p);
+
 /* Writes the bytes that the last transfer read, once it has ended, and their number to count: after a
  * read-modify-write the old ones, after a bus error those before it, and otherwise none. Fails with
  * VME_BAD_CALL if they are more than size, and then writes only their number; and with VME_CLOSED. */

@@ -68,19 +68,38 @@ static inline uint8_t vme_processor_local_modify(vme_processor *p, const vme_wai
 
 /* ---- Transfers over the bus ---- */
 
-/* Steps what was started until it ends, or until its next event if `once` is not 0. Returns the result of the last step. If `wakes` is not
- * 0, each release of the bus wakes those that wait for it. */
-static inline uint8_t vme_go_on(vme_processor *p, const vme_waiter *waiter, int once, int wakes)
+/* Makes the next event of what was started if `once` is not 0, and otherwise events as vme_processor_run does. Returns the result of the last
+ * step, and writes whether the bus may have been released. */
+static inline uint8_t vme_make_events(vme_processor *p, const vme_waiter *waiter, int once, int *released)
+{
+    uint8_t result, reply = VME_BAD_CALL;
+    vme_datum bytes;
+#ifndef VME_HAS_TSAN /* it sees each event */
+    if (!once) {
+        result = vme_processor_run(p);
+        *released = result != VME_BUSY && result != VME_NOT_GRANTED;
+        return result;
+    }
+#endif
+    do {
+        vme_before_event(waiter);
+        result = vme_processor_step_reply(p, &reply, &bytes);
+        vme_after_event(waiter);
+    } while (!once && result == VME_MORE && reply != VME_BUS_FREED);
+    *released = reply == VME_BUS_FREED;
+    return result;
+}
+
+/* Steps what was started until it ends, or until its next event if `once` is not 0. Returns the result of the last step. Each release of the
+ * bus wakes those that wait for it. */
+static inline uint8_t vme_go_on(vme_processor *p, const vme_waiter *waiter, int once)
 {
     vme_tries tries = { 0, 0 };
     for (;;) {
         const uint32_t value = vme_count_value(vme_bus_of(waiter));
-        vme_datum bytes;
-        uint8_t reply = VME_BAD_CALL;
-        vme_before_event(waiter);
-        const uint8_t result = wakes ? vme_processor_step_reply(p, &reply, &bytes) : vme_processor_step(p);
-        vme_after_event(waiter);
-        if (reply == VME_BUS_FREED)
+        int released;
+        const uint8_t result = vme_make_events(p, waiter, once, &released);
+        if (released)
             vme_count_increment(vme_bus_of(waiter));
         if (result == VME_MORE && !once)
             memset(&tries, 0, sizeof tries);
@@ -95,23 +114,14 @@ static inline uint8_t vme_go_on(vme_processor *p, const vme_waiter *waiter, int 
  * VME_CLOSED. */
 static inline uint8_t vme_acquire(vme_processor *p, const vme_waiter *waiter)
 {
-    const uint8_t result = vme_go_on(p, waiter, 1, 0);
+    const uint8_t result = vme_go_on(p, waiter, 1);
     return result == VME_MORE ? (uint8_t)VME_OK : result;
 }
 
-/* Steps a transfer, a lock or an unlock that was started until it ends, and returns the result of the last step. */
+/* Steps a transfer, a lock, an unlock, a put or a take that was started until it ends, and returns the result of the last step. */
 static inline uint8_t vme_finish(vme_processor *p, const vme_waiter *waiter)
 {
-    const uint8_t result = vme_go_on(p, waiter, 0, 0);
-    if (result == VME_OK || result == VME_BERR || result == VME_NO_BOARD || result == VME_HELD)
-        vme_count_increment(vme_bus_of(waiter));
-    return result;
-}
-
-/* The same for a put or a take, which has several tenures. */
-static inline uint8_t vme_finish_tenures(vme_processor *p, const vme_waiter *waiter)
-{
-    return vme_go_on(p, waiter, 0, 1);
+    return vme_go_on(p, waiter, 0);
 }
 
 /* The same for a transfer that writes. */
@@ -254,7 +264,7 @@ static inline uint8_t vme_use_mailbox(vme_processor *p, const vme_waiter *waiter
         uint8_t result = word ? vme_processor_start_put(p, box, *word) : vme_processor_start_take(p, box);
         if (result != VME_OK)
             return result;
-        result = vme_finish_tenures(p, waiter);
+        result = vme_finish(p, waiter);
         if (result == VME_HELD) {
             if (!vme_wait(waiter, vme_data_of(waiter), data, &locked))
                 return result;
@@ -271,7 +281,7 @@ static inline uint8_t vme_use_mailbox(vme_processor *p, const vme_waiter *waiter
 
 /* Puts a word into a mailbox, and waits until there is a slot. Returns VME_FULL if the waiter's limit is reached, VME_SPENT after
  * 2^32 - 1 words, VME_C13 if the mailbox is not lawful, and else what vme_lock does. After VME_BUSY or VME_NOT_GRANTED the put goes on:
- * vme_finish_tenures continues it. */
+ * vme_finish continues it. */
 static inline uint8_t vme_put(vme_processor *p, const vme_waiter *waiter, const vme_mailbox *box, uint32_t word)
 {
     return vme_use_mailbox(p, waiter, box, &word);

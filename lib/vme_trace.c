@@ -604,6 +604,17 @@ uint8_t vme_processor_step(vme_processor *p)
     return vme_processor_step_reply(p, &reply, &bytes);
 }
 
+/* Step by step, so that each event has its line. */
+uint8_t vme_processor_run(vme_processor *p)
+{
+    uint8_t result, reply = VME_BAD_CALL;
+    vme_datum bytes = { 0, { 0 } };
+    do {
+        result = vme_processor_step_reply(p, &reply, &bytes);
+    } while (result == VME_MORE && reply != VME_BUS_FREED);
+    return result;
+}
+
 uint8_t vme_processor_bytes(vme_processor *p, uint8_t *out, size_t size, size_t *count)
 {
     return p->full ? untraced_vme_processor_bytes(&of(p)->own, out, size, count) : (uint8_t)VME_CLOSED;

@@ -79,6 +79,7 @@ static void check_closed(void)
     want("put of a closed one", vme_processor_start_put(&empty, &box, 1), VME_CLOSED);
     want("take of a closed one", vme_processor_start_take(&empty, &box), VME_CLOSED);
     want("step of a closed one", vme_processor_step_reply(&empty, &reply, &bytes), VME_CLOSED);
+    want("run of a closed one", vme_processor_run(&empty), VME_CLOSED);
     want("word of a closed one", vme_processor_word(&empty, &word), VME_CLOSED);
     want("transfer of a closed one", vme_processor_transfer(&empty, &request, &bytes), VME_CLOSED);
     want("what they wrote", word == 7 && reply == 7 && bytes.n == 7 && request.addr == 7 && request.n == 7, 1);
@@ -100,6 +101,7 @@ static void check_refusals(void)
         want("take from no mailbox", vme_processor_start_take(&p[0], unlawful[i]), VME_C13);
     }
     want("step of nothing", vme_processor_step(&p[0]), VME_BAD_CALL);
+    want("run of nothing", vme_processor_run(&p[0]), VME_BAD_CALL);
     want("transfer of nothing", vme_processor_transfer(&p[0], &request, &bytes), VME_BAD_CALL);
     check_no_word(&p[0]);
     want("a reserved code", vme_processor_start_lock(&p[0], 0x2f, box.addr), VME_K1);
@@ -242,6 +244,49 @@ static void check_events(void)
     close_two();
 }
 
+/* ---- Several events in a call ---- */
+
+enum { ARBITER = 2, TENURES = 6 /* of a put */ };
+
+static void close_with(uint64_t own, uint64_t board, uint64_t arbiter)
+{
+    uint64_t steps[3];
+    uint8_t bytes;
+    want("close", vme_machine_close(p, 2, steps, 3, &bytes, 0), VME_OK);
+    want("the steps", steps[0] == own && steps[1] == board && steps[ARBITER] == arbiter, 1);
+}
+
+/* A put makes a tenure in each call, and a transfer all of its events. The last result is returned again. */
+static void check_runs(void)
+{
+    const vme_request read = vme_request_of(VME_READ, AM, box.addr, 4, 0), nowhere = vme_request_of(VME_READ, AM, 0x0f000000u, 4, 0);
+    const vme_request block = vme_request_of(VME_BLOCK_READ, BLOCK_AM, box.addr, 4, 16);
+    uint8_t bytes[64];
+    size_t count = 0;
+    open_two();
+    want("start", vme_processor_start_put(&p[0], &box, 0xcafe0001u), VME_OK);
+    for (int i = 1; i < TENURES; i++)
+        want("a tenure of a put", vme_processor_run(&p[0]), VME_MORE);
+    want("the last one", vme_processor_run(&p[0]), VME_OK);
+    want("after the end", vme_processor_run(&p[0]), VME_OK);
+    want("start", vme_processor_start_read(&p[1], &read), VME_OK);
+    want("it has the bus", vme_processor_step(&p[1]), VME_MORE);
+    want("start", vme_processor_start_take(&p[0], &box), VME_OK);
+    for (int i = 0; i < 3; i++)
+        want("a run without the bus", vme_processor_run(&p[0]), VME_NOT_GRANTED);
+    want("the rest of the read", vme_processor_run(&p[1]), VME_OK);
+    for (int i = 1; i < TENURES; i++)
+        want("a tenure of a take", vme_processor_run(&p[0]), VME_MORE);
+    want("the last one", vme_processor_run(&p[0]), VME_OK);
+    check_word(&p[0], 0xcafe0001u);
+    want("start", vme_processor_start_read(&p[0], &nowhere), VME_OK);
+    want("no board", vme_processor_run(&p[0]), VME_NO_BOARD);
+    want("start", vme_processor_start_read(&p[0], &block), VME_OK);
+    want("a block", vme_processor_run(&p[0]), VME_OK);
+    want("its bytes", vme_processor_bytes(&p[0], bytes, sizeof bytes, &count) == VME_OK && count == sizeof bytes && bytes[19] == 1, 1);
+    close_with(0, 2 * TENURES + 1 + 16, 2 * (2 * TENURES + 3) + 3);
+}
+
 /* ---- Busy objects ---- */
 
 /* Of checks/machine_double.c alone: takes an object as a call of another processor does, or frees it. */
@@ -262,6 +307,7 @@ static void check_held(size_t object)
         want("its reply", reply, VME_BUSY);
         want("what it wrote", written.n, 7);
         want("the same step", vme_processor_step(&p[0]), VME_BUSY);
+        want("the same run", vme_processor_run(&p[0]), VME_BUSY);
     }
     want("transfer", vme_processor_transfer(&p[0], &after, &bytes), VME_OK);
     want("the same transfer", memcmp(&before, &after, sizeof before) == 0, 1);
@@ -271,9 +317,6 @@ static void check_held(size_t object)
 /* A put whose arbiter or board is busy before each event: it has the events, the steps and the words of a put that meets nobody. */
 static void check_busy(void)
 {
-    enum { ARBITER = 2, TENURES = 6 };
-    uint64_t steps[3];
-    uint8_t bytes;
     vme_datum out = { 7, { 7 } };
     if (!machine_double_hold || getenv("VME_TRACE")) /* a machine with a log has another struct */
         return;
@@ -290,9 +333,15 @@ static void check_busy(void)
     machine_double_hold(&p[0], 1, 1);
     want("a local read of a busy board", vme_processor_try_local_read(&p[1], AT, 4, &out), VME_BUSY);
     want("what it wrote", out.n, 7);
+    want("start", vme_processor_start_take(&p[0], &box), VME_OK);
+    want("a run up to a busy board", vme_processor_run(&p[0]), VME_BUSY);
     machine_double_hold(&p[0], 1, 0);
-    want("close", vme_machine_close(p, 2, steps, 3, &bytes, 0), VME_OK);
-    want("the steps", steps[0] == 0 && steps[1] == TENURES && steps[2] == 2 * TENURES, 1);
+    check_step(VME_MORE, VME_OK, 1);
+    machine_double_hold(&p[0], ARBITER, 1);
+    want("a run at a busy arbiter", vme_processor_run(&p[0]), VME_BUSY);
+    machine_double_hold(&p[0], ARBITER, 0);
+    want("the rest of the tenure", vme_processor_run(&p[0]), VME_MORE);
+    close_with(0, TENURES + 1, 2 * TENURES + 2);
 }
 
 /* ---- Threads ---- */
@@ -386,6 +435,7 @@ int main(int argc, char **argv)
     check_locks();
     check_mailbox();
     check_events();
+    check_runs();
     check_busy();
     check_threads();
     printf("%u words through a mailbox, %llu of their steps at a busy object; each end of a lock, a put and a take\n", words,

@@ -153,7 +153,7 @@ static uint8_t finish(actor *own, uint8_t started)
     for (;; own->events++) {
         if (own->is_fine)
             pause_at_times(own);
-        const uint8_t result = vme_go_on(&own->p, &waiter, 1, 1);
+        const uint8_t result = vme_go_on(&own->p, &waiter, 1);
         if (result != VME_MORE)
             return result;
     }

@@ -1,15 +1,14 @@
 -- Defines a step of a processor for C.
 use Rattle.std.specs.Prelude.{ℕ, ◌≡◌, Option, Some, None, Result, Ok, Err}
-use Rattle.std.specs.Arc.{arc_value}
 use Rattle.vme_core.specs.declared.event.EventReply.{EventReply}
 use Rattle.vme_master.specs.declared.outcome.Outcome.{Outcome}
 use Rattle.vme_shared.specs.declared.outcome.SharedOutcome.{SharedOutcome}
 use Rattle.vme_processor.specs.declared.processor.Processor.{Processor}
 use Rattle.vme_processor.specs.declared.transfer.StepFault.{StepFault}
 use Rattle.vme_processor.specs.declared.transfer.StepFault.TheVariants.{Busy, Spent, NoBoard}
-use Rattle.vme_processor.specs.Processors.{KeepsPlace}
-use Rattle.vme_processor.specs.Events.{WasBusy}
-use Rattle.vme_processor.specs.Works.{Steps}
+use Rattle.vme_processor.specs.declared.run.Met.{Met}
+use Rattle.vme_processor.specs.declared.run.Met.TheVariants as met
+use Rattle.vme_processor.specs.Runs.{Stepped, Runs, met_of}
 use Rattle.vme_processor.specs.Transfers.{outcome_of}
 use Rattle.vme_processor.specs.Shared.{shared_outcome_of}
 use Rattle.vme_c_types.specs.declared.datum.VmeDatum.{VmeDatum}
@@ -20,37 +19,36 @@ use Rattle.vme_machine_ffi.specs.Results as results
 use Rattle.vme_machine_ffi.specs.Transfers.{Ends}
 use Rattle.vme_machine_ffi.specs.Shared.{EndsShared}
 
--- the number of a step by the outcome of what was started last, if it has ended
-abbrev pub EndsWork : Option SharedOutcome → Option Outcome → Option EventReply → ℕ → Type 0
-EndsWork (Some outcome) transfer reply result = EndsShared outcome result
-EndsWork None outcome reply result = Ends outcome reply result
+-- the number of a step by the outcome of what was started last, or another one if it has not ended
+abbrev pub EndsWork : Option SharedOutcome → Option Outcome → ℕ → ℕ → Type 0
+EndsWork (Some outcome) transfer other result = EndsShared outcome result
+EndsWork None transfer other result = Ends transfer other result
 
--- the number of a step of a processor
-abbrev pub HasNumber : Result (Option EventReply) StepFault → Processor → ℕ → Type 0
-HasNumber (Ok reply) q result = EndsWork (shared_outcome_of q) (outcome_of q) reply result
-HasNumber (Err Busy) q result = result ≡ results.busy
-HasNumber (Err Spent) q result = result ≡ results.spent
-HasNumber (Err NoBoard) q result = result ≡ results.bad_state
+-- the same, by the processor
+abbrev pub EndsOr : Processor → ℕ → ℕ → Type 0
+EndsOr q other result = EndsWork (shared_outcome_of q) (outcome_of q) other result
 
--- what a step did: one event, or none; after a fault the task is unchanged
-abbrev pub Did : Result (Option EventReply) StepFault → Processor → Processor → Type 0
-Did (Ok (Some reply)) p q = Steps reply p q
-Did (Ok None) p q = (q.member ≡ p.member) × (q.task ≡ p.task)
-Did (Err Busy) p q = WasBusy p.member q.member × (q.task ≡ p.task)
-Did (Err Spent) p q = q.task ≡ p.task
-Did (Err NoBoard) p q = q.task ≡ p.task
-
--- one step of an open processor that came to this
-pub record Stepped (stepped : Result (Option EventReply) StepFault) (p q : Processor) : Type 0 where
-  pub did : Did stepped p q
-  pub machine : arc_value q.member.array ≡ arc_value p.member.array
-  pub place : KeepsPlace p q
+-- the number of a step by what it came to
+abbrev pub NumbersMet : Met → Processor → ℕ → Type 0
+NumbersMet met.Event q result = EndsOr q results.more result
+NumbersMet met.Waiting q result = EndsOr q results.waiting result
+NumbersMet met.Freed q result = EndsOr q results.more result
+NumbersMet met.Nothing q result = EndsOr q numbers.bad_call result
+NumbersMet met.Busy q result = result ≡ results.busy
+NumbersMet met.Spent q result = result ≡ results.spent
+NumbersMet met.NoBoard q result = result ≡ results.bad_state
 
 -- one step of an open processor
 pub record StepsAs (result : ℕ) (p q : Processor) : Type 0 where
   pub stepped : Result (Option EventReply) StepFault
   pub step : Stepped stepped p q
-  pub number : HasNumber stepped q result
+  pub number : NumbersMet (met_of stepped) q result
+
+-- steps of an open processor with one event each, and after them one step, whose number is the result
+pub record RunsAs (result : ℕ) (p q : Processor) : Type 0 where
+  pub what : Met
+  pub runs : Runs what p q
+  pub number : NumbersMet what q result
 
 -- the number of the reply of a step, or of what it met in its place
 abbrev pub reply_number : Result (Option EventReply) StepFault → ℕ
@@ -70,6 +68,6 @@ WritesReply (Err fault) old new = new ≡ old
 pub record StepsWithReply (result code : ℕ) (old new : VmeDatum) (p q : Processor) : Type 0 where
   pub stepped : Result (Option EventReply) StepFault
   pub step : Stepped stepped p q
-  pub number : HasNumber stepped q result
+  pub number : NumbersMet (met_of stepped) q result
   pub reply : code ≡ reply_number stepped
   pub bytes : WritesReply stepped old new

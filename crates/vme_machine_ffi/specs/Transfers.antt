@@ -1,9 +1,6 @@
 -- Defines the transfers of C over the bus.
 use Rattle.std.specs.Prelude.{ℕ, ◌≡◌, ◌⊎◌, ◌<◌, ◌≤◌, List, [], ◌++◌, length, drop, Option, Some, None, Result, Ok, Err}
 use Rattle.vme_cycle.specs.declared.request.Request.{Request}
-use Rattle.vme_arbiter.specs.declared.command.ArbReply.TheVariants.{Granted, Waiting, Denied, Freed}
-use Rattle.vme_core.specs.declared.event.EventReply.{EventReply}
-use Rattle.vme_core.specs.declared.event.EventReply.TheVariants as replies
 use Rattle.vme_master.specs.declared.outcome.Outcome.{Outcome}
 use Rattle.vme_master.specs.declared.outcome.Outcome.TheVariants as outcomes
 use Rattle.vme_processor.specs.declared.processor.Processor.{Processor}
@@ -38,23 +35,14 @@ abbrev pub StartsAs : Result Request ℕ → ℕ → Processor → Processor →
 StartsAs (Ok request) result p q = StartsOk request result p q ⊎ StartsNot request result p q
 StartsAs (Err number) result p q = (result ≡ number) × (q ≡ p)
 
--- the number of a step after which a transfer goes on, by the reply to its event
-abbrev pub Continues : Option EventReply → ℕ → Type 0
-Continues None result = result ≡ numbers.bad_call
-Continues (Some (replies.Bus Waiting)) result = result ≡ results.waiting
-Continues (Some (replies.Bus Granted)) result = result ≡ results.more
-Continues (Some (replies.Bus Denied)) result = result ≡ results.more
-Continues (Some (replies.Bus Freed)) result = result ≡ results.more
-Continues (Some (replies.Board reply)) result = result ≡ results.more
-
--- the number of a step by the outcome of the transfer, if it has ended
-abbrev pub Ends : Option Outcome → Option EventReply → ℕ → Type 0
-Ends (Some (outcomes.Read bytes)) reply result = result ≡ numbers.ok
-Ends (Some outcomes.Done) reply result = result ≡ numbers.ok
-Ends (Some (outcomes.Old bytes)) reply result = result ≡ numbers.ok
-Ends (Some (outcomes.Berr count bytes)) reply result = (result ≡ numbers.bus_error) ⊎ (result ≡ numbers.no_board)
-Ends (Some outcomes.Denied) reply result = result ≡ results.denied
-Ends None reply result = Continues reply result
+-- the number of a step by the outcome of the transfer, or another one if it has not ended
+abbrev pub Ends : Option Outcome → ℕ → ℕ → Type 0
+Ends (Some (outcomes.Read bytes)) other result = result ≡ numbers.ok
+Ends (Some outcomes.Done) other result = result ≡ numbers.ok
+Ends (Some (outcomes.Old bytes)) other result = result ≡ numbers.ok
+Ends (Some (outcomes.Berr count bytes)) other result = (result ≡ numbers.bus_error) ⊎ (result ≡ numbers.no_board)
+Ends (Some outcomes.Denied) other result = result ≡ results.denied
+Ends None other result = result ≡ other
 
 -- the bytes of an outcome, if there is one
 abbrev pub bytes_of : Option Outcome → List ℕ

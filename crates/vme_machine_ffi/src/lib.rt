@@ -1,6 +1,6 @@
 //! `libvme_machine`: machines of boards on one backplane (ANSI/IEEE Std 1014-1987) for the threads of
-//! C programs and of the languages that call C. Each thread holds a processor, and each export does
-//! at most one event and never waits. `include/vme_machine.h` declares the exports.
+//! C programs and of the languages that call C. Each thread holds a processor, and each export but
+//! `vme_processor_run` does at most one event; none waits. `include/vme_machine.h` declares the exports.
 #![tactic(auto)]
 
 mod board;

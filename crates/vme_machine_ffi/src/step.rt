@@ -1,23 +1,20 @@
 //! The events of what a processor does over the bus.
 ghost use Rattle.std.specs.Prelude.{◌≡◌, ◌⊎◌, None, IfSome, IfNone, IsSome};
-ghost use Rattle.vme_processor.specs.Transfers.{outcome_of};
-ghost use Rattle.vme_processor.specs.Shared.{shared_outcome_of};
+ghost use Rattle.vme_processor.specs.Runs.{Stepped};
 ghost use Rattle.vme_c_types.specs.Results.{bus_error, no_board};
 ghost use Rattle.vme_machine_ffi.specs.Results.{closed};
-ghost use Rattle.vme_machine_ffi.specs.Transfers.{Ends};
 ghost use Rattle.vme_machine_ffi.specs.Shared.{EndsShared};
-ghost use Rattle.vme_machine_ffi.specs.Steps.{EndsWork, HasNumber, Stepped, StepsAs, StepsWithReply, WritesReply, reply_number};
+ghost use Rattle.vme_machine_ffi.specs.Steps.{EndsOr, NumbersMet, RunsAs, StepsAs, StepsWithReply, WritesReply, reply_number};
 
 use crate::calls::reply_number;
 use crate::handle::VmeProcessor;
 use crate::results::{BAD_STATE, BUSY, CLOSED, DENIED, EMPTY, FULL, HELD, MORE, SPENT, WAITING};
 use std::alloc::Global;
-use vme_arbiter::ArbReply;
 use vme_c_types::{BAD_CALL, BUS_ERROR, NO_BOARD, OK, VmeDatum, datum_from};
 use vme_core::EventReply;
 use vme_master::OutcomeRef;
 use vme_memory::Reply;
-use vme_processor::{Processor, StepFault};
+use vme_processor::{Met, Processor, StepFault};
 use vme_shared::SharedOutcome;
 
 /// The number of a bus error: of a board, or since no board responds.
@@ -49,48 +46,40 @@ fn shared_number(processor: &Processor, outcome: SharedOutcome) -> u8
     }
 }
 
-/// The number of a step without a fault, by the reply to its event and the outcome of the last
-/// transfer, if there is one.
-fn transfer_number(processor: &Processor, reply: &Option<EventReply>) -> u8
-    ensures { Ends (outcome_of processor.now) reply.now result }
+/// The number of the end of what was started last, or another one if it has not ended.
+fn end_or(processor: &Processor, other: u8) -> u8
+    ensures { EndsOr processor.now other result }
 {
+    if let Some(outcome) = processor.shared_outcome() {
+        return shared_number(processor, outcome);
+    }
     match processor.outcome() {
         Some(OutcomeRef::Read(_)) => OK,
         Some(OutcomeRef::Done) => OK,
         Some(OutcomeRef::Old(_)) => OK,
         Some(OutcomeRef::Berr { .. }) => error_number(processor),
         Some(OutcomeRef::Denied) => DENIED,
-        None => match reply {
-            None => BAD_CALL,
-            Some(EventReply::Bus(ArbReply::Waiting)) => WAITING,
-            Some(_) => MORE,
-        },
+        None => other,
     }
 }
 
-/// The number of a step without a fault, by the reply to its event.
-fn progress(processor: &Processor, reply: &Option<EventReply>) -> u8
-    ensures { EndsWork (shared_outcome_of processor.now) (outcome_of processor.now) reply.now result }
+/// The number of a step by what it came to.
+fn met_number(processor: &Processor, met: Met) -> u8
+    ensures { NumbersMet met processor.now result }
 {
-    match processor.shared_outcome() {
-        Some(outcome) => shared_number(processor, outcome),
-        None => transfer_number(processor, reply),
-    }
-}
-
-/// The number of what a step came to.
-fn step_number(processor: &Processor, stepped: &Result<Option<EventReply>, StepFault>) -> u8
-    ensures { HasNumber stepped.now processor.now result }
-{
-    match stepped {
-        Ok(reply) => progress(processor, reply),
-        Err(StepFault::Busy) => BUSY,
-        Err(StepFault::Spent) => SPENT,
-        Err(StepFault::NoBoard) => BAD_STATE,
+    match met {
+        Met::Event | Met::Freed => end_or(processor, MORE),
+        Met::Waiting => end_or(processor, WAITING),
+        Met::Nothing => end_or(processor, BAD_CALL),
+        Met::Busy => BUSY,
+        Met::Spent => SPENT,
+        Met::NoBoard => BAD_STATE,
     }
 }
 
 /// Performs the next event.
+// Its code stands once, apart from that of runs.
+#[inline(never)]
 fn step(processor: &mut Processor) -> Result<Option<EventReply>, StepFault>
     ensures { Stepped result processor.old processor.new }
 {
@@ -102,7 +91,7 @@ fn step_silent(processor: &mut Processor) -> u8
     ensures { StepsAs result processor.old processor.new }
 {
     let stepped = step(processor);
-    step_number(processor, &stepped)
+    met_number(processor, Met::of(&stepped))
 }
 
 /// Performs the next event of the transfer, lock, unlock, put or take that was started last, if no
@@ -121,6 +110,32 @@ pub extern "C" fn vme_processor_step(alloc: Global, p: &mut VmeProcessor) -> u8
         return CLOSED;
     };
     let result = step_silent(&mut processor);
+    *p = VmeProcessor::of(processor);
+    result
+}
+
+/// Makes steps of a processor, one after another, and returns the number of the last one.
+fn run(processor: &mut Processor) -> u8
+    ensures { RunsAs result processor.old processor.new }
+{
+    let met = processor.run();
+    met_number(processor, met)
+}
+
+/// Makes steps as `vme_processor_step` does, one after another: until a step makes no event, the
+/// arbiter has not granted the bus, or the bus is released. Returns the number of the last step:
+/// `MORE` if the bus was released and the lock, unlock, put or take goes on, and otherwise as
+/// `vme_processor_step`.
+#[unsafe(no_mangle)]
+pub extern "C" fn vme_processor_run(alloc: Global, p: &mut VmeProcessor) -> u8
+    ensures closed { IfNone p.old.handle.value ((result ≡ closed) × (p.new.handle.value ≡ None)) }
+    ensures stays { IfSome p.old.handle.value (λ a. IsSome p.new.handle.value) }
+    ensures open { IfSome p.old.handle.value (λ a. IfSome p.new.handle.value (λ b. RunsAs result a b)) }
+{
+    let Some(mut processor) = p.take(alloc) else {
+        return CLOSED;
+    };
+    let result = run(&mut processor);
     *p = VmeProcessor::of(processor);
     result
 }
@@ -148,7 +163,7 @@ fn step_with_reply(processor: &mut Processor, reply: &mut u8, out: &mut VmeDatum
 {
     let stepped = step(processor);
     *reply = write_reply(&stepped, out);
-    step_number(processor, &stepped)
+    met_number(processor, Met::of(&stepped))
 }
 
 /// As `vme_processor_step`. It writes the number of the reply to `reply`: `OK` or `BUS_ERROR` of a

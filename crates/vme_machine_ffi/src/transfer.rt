@@ -27,6 +27,7 @@ pub(crate) fn start_number(fault: StartFault) -> u8
 }
 
 /// Starts a transfer, if there is a request for it, and returns the number of the start.
+#[inline(always)]
 fn start_with(alloc: Global, processor: &mut Processor, request: Result<Request, u8>) -> u8
     ensures { StartsAs request result processor.old processor.new }
 {
@@ -41,6 +42,7 @@ fn start_with(alloc: Global, processor: &mut Processor, request: Result<Request,
 }
 
 /// Starts a transfer of the processor in a struct.
+#[inline(always)]
 fn start(alloc: Global, p: &mut VmeProcessor, request: Result<Request, u8>) -> u8
     ensures closed { IfNone p.old.handle.value ((result ≡ closed) × (p.new.handle.value ≡ None)) }
     ensures stays { IfSome p.old.handle.value (λ a. IsSome p.new.handle.value) }

@@ -42,6 +42,12 @@ IsWhy request p Running = is_running p ≡ true
 IsWhy request p OutOfMemory = ReadsLong request
 IsWhy request p (Refused fault) = transfer_of request ≡ Err fault
 
+-- why a request gets no buffer for the bytes that it reads
+abbrev pub IsWhyNoBuffer : Request → StartFault → Type 0
+IsWhyNoBuffer request Running = ⊥
+IsWhyNoBuffer request OutOfMemory = ReadsLong request
+IsWhyNoBuffer request (Refused fault) = transfer_of request ≡ Err fault
+
 -- one event of a transfer: the member makes the next call, and the transfer advances by the reply
 pub record StepsTask (reply : EventReply) (m n : Member BusObject BusCommand EventReply)
     (before after : TaskView) : Type 0 where

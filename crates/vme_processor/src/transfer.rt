@@ -1,6 +1,8 @@
 //! What a processor does over the bus, event by event, and its transfers.
-ghost use Rattle.std.specs.Prelude.{◌≡◌, ◌+◌, Err, option_map, IfOk, IfErr, IfSome, IfNone};
+ghost use Rattle.std.specs.Prelude.{◌≡◌, ◌+◌, ◌≤◌, [], Ok, Err, option_map, IfOk, IfErr, IfSome, IfNone};
 ghost use Rattle.std.specs.Arc.{arc_value};
+ghost use Rattle.vme_cycle.specs.Requests.{read_len};
+ghost use Rattle.vme_cycle.specs.Lawful.{Transfer as LawfulRequest, transfer_of};
 ghost use Rattle.vme_core.specs.EventRefs.{call_asked};
 ghost use Rattle.vme_bus_objects.specs.declared.command.BusCommand.TheVariants as commands;
 ghost use Rattle.vme_master.specs.Events.{outcome_in};
@@ -8,16 +10,17 @@ ghost use Rattle.vme_port_array.specs.Arrays.{objects_of};
 ghost use Rattle.vme_processor.specs.Processors.{KeepsPlace, place_of};
 ghost use Rattle.vme_processor.specs.Events.{AddsEntry, AddsCall, WasBusy};
 ghost use Rattle.vme_processor.specs.Works.{StepsWork, Steps, is_running};
-ghost use Rattle.vme_processor.specs.Transfers.{StepsTask, Starts, IsWhy, outcome_of};
+ghost use Rattle.vme_processor.specs.Transfers.{StepsTask, Starts, IsWhy, IsWhyNoBuffer, outcome_of};
 
+use crate::bus_operation::BusOperation;
 use crate::opening::Place;
 use crate::processor::Processor;
 use crate::work::Work;
 use std::alloc::Global;
 use vme_arbiter::ArbCmd;
-use vme_bus_objects::{ArbiterOperation, BoardOperation, BusObject};
+use vme_bus_objects::{BoardOperation, BusObject};
 use vme_core::{EventRef, EventReply};
-use vme_cycle::{BlockBuffer, CycleFault, Plan, Request};
+use vme_cycle::{BlockBuffer, CycleFault, INLINE_LEN, Plan, Request};
 use vme_decode::AddressMap;
 use vme_machine::Member;
 use vme_master::{OutcomeRef, Task};
@@ -49,6 +52,7 @@ pub enum StepFault {
 }
 
 /// Performs an operation on the board at an index.
+#[inline(always)]
 fn access<A: Operation<ByteMemory>>(
     member: &mut Member<BusObject>,
     boards: usize,
@@ -72,6 +76,7 @@ fn access<A: Operation<ByteMemory>>(
 }
 
 /// Performs a command on the arbiter.
+#[inline(always)]
 fn command(
     member: &mut Member<BusObject>,
     boards: usize,
@@ -83,7 +88,7 @@ fn command(
         AddsEntry boards (commands.Arbiter cmd.now) reply member.old member.new) }
     ensures busy { result ≡ Err StepFault.Busy → WasBusy member.old member.new }
 {
-    match member.try_operation(boards, &ArbiterOperation { cmd }) {
+    match member.try_operation(boards, &BusOperation { cmd }) {
         Ok(reply) => Ok(reply),
         Err(TryFault::Busy) => Err(StepFault::Busy),
         Err(TryFault::Spent) => Err(StepFault::Spent),
@@ -91,6 +96,7 @@ fn command(
 }
 
 /// Performs an event over the bus.
+#[inline(always)]
 pub(crate) fn perform(
     member: &mut Member<BusObject>,
     boards: usize,
@@ -109,6 +115,7 @@ pub(crate) fn perform(
 }
 
 /// Performs the next event of a transfer, if there is one, and gives it the reply.
+#[inline(always)]
 fn step_task(
     member: &mut Member<BusObject>,
     boards: usize,
@@ -131,6 +138,7 @@ fn step_task(
 }
 
 /// Performs the next event of a work at a place of the bus, if there is one, and gives it the reply.
+#[inline(always)]
 fn step_work(
     member: &mut Member<BusObject>,
     boards: usize,
@@ -150,6 +158,32 @@ fn step_work(
         Work::Transfer(task) => step_task(member, boards, task),
         Work::Shared(work) => work.step(member, boards, map, place),
     }
+}
+
+/// Returns a buffer for the bytes that a request reads, which is allocated if they are more than 40.
+///
+/// # Errors
+/// `Refused` with the first refusal of a request that would read more than 40 bytes, and `OutOfMemory`
+/// if the allocation fails.
+#[inline(always)]
+fn buffer_for(alloc: Global, request: &Request) -> Result<BlockBuffer, StartFault>
+    ensures empty { IfOk result (λ buffer. buffer.items ≡ []) }
+    ensures enough { IfOk result (λ buffer. (t : LawfulRequest) → transfer_of request.now ≡ Ok t →
+        read_len t.request ≤ buffer.capacity) }
+    ensures why { IfErr result (IsWhyNoBuffer request.now) }
+{
+    // A request that reads so little is not checked here: its task checks it.
+    if request.read_len() <= INLINE_LEN {
+        return Ok(BlockBuffer::new());
+    }
+    let read_len = match Plan::of(request) {
+        Ok(plan) => plan.read_len(),
+        Err(fault) => return Err(StartFault::Refused(fault)),
+    };
+    let Ok(buffer) = BlockBuffer::with_capacity(alloc, read_len) else {
+        return Err(StartFault::OutOfMemory);
+    };
+    Ok(buffer)
 }
 
 impl Processor {
@@ -177,13 +211,7 @@ impl Processor {
         if self.is_running() {
             return Err(StartFault::Running);
         }
-        let read_len = match Plan::of(&request) {
-            Ok(plan) => plan.read_len(),
-            Err(fault) => return Err(StartFault::Refused(fault)),
-        };
-        let Ok(buffer) = BlockBuffer::with_capacity(alloc, read_len) else {
-            return Err(StartFault::OutOfMemory);
-        };
+        let buffer = buffer_for(alloc, &request)?;
         let (slot, level) = (self.slot, self.level);
         let mut task = match Task::start_owned_into(&self.map, slot, level, request, buffer) {
             Ok(task) => task,
@@ -211,6 +239,7 @@ impl Processor {
     /// # Errors
     /// `Busy` if another processor holds the object: nothing has happened. `Spent` if the object has
     /// made 2^64 - 1 steps, and `NoBoard` if the machine has no such board. The task is unchanged.
+    #[inline(always)]
     pub fn step(&mut self) -> Result<Option<EventReply>, StepFault>
         ensures event { IfOk result (λ r. IfSome r (λ reply. Steps reply self.old self.new)) }
         ensures none { IfOk result (λ r. IfNone r

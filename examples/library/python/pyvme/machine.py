@@ -268,12 +268,13 @@ class Processor:
     def _run(self, until_granted: bool = False) -> int:
         """Steps what was started until it has the bus, or until it ends, and wakes those that wait for the bus at each release. Returns
         the result of the last step."""
-        reply, moved = c_uint8(), Datum()
+        if until_granted:
+            return self._try(lambda: self._lib.processor_step(byref(self._own)))
         while True:
-            result = self._try(lambda: self._lib.processor_step_reply(byref(self._own), byref(reply), byref(moved)))
-            if reply.value == MachineResult.BUS_FREED:
+            result = self._try(lambda: self._lib.processor_run(byref(self._own)))
+            if result not in (MachineResult.BUSY, MachineResult.NOT_GRANTED):
                 self._releases.increment("bus")
-            if result != MachineResult.MORE or until_granted:
+            if result != MachineResult.MORE:
                 return result
 
     def _finish(self, wakes: bool) -> None:

@@ -93,6 +93,7 @@ MACHINE_SIGNATURES: dict[str, tuple] = {
     "processor_start_write": (c_uint8, _OWN, POINTER(RequestStruct), POINTER(c_uint8), c_size_t),
     "processor_start_modify": (c_uint8, _OWN, POINTER(RequestStruct), POINTER(Modify)),
     "processor_step": (c_uint8, _OWN),
+    "processor_run": (c_uint8, _OWN),
     "processor_step_reply": (c_uint8, _OWN, POINTER(c_uint8), POINTER(Datum)),
     "processor_bytes": (c_uint8, _OWN, POINTER(c_uint8), c_size_t, POINTER(c_size_t)),
     "processor_start_lock": (c_uint8, _OWN, _AM, _ADDR),
