@@ -1,1 +1,9 @@
 pub mod Levels
+pub mod Names
+pub mod Words
+pub mod Places
+pub mod Changes
+pub mod Buses
+pub mod Tables
+pub mod Bodies
+pub mod Readers

@@ -1,6 +1,7 @@
 //! The levels of the bits of a variable.
-ghost use Rattle.std.specs.Prelude.{◌≡◌};
-ghost use Rattle.vme_vcd_reader.specs.Levels.{level_of};
+ghost use Rattle.std.specs.Prelude.{◌≡◌, List};
+ghost use Rattle.vme_vcd_reader.specs.declared.bits.Level.{Level};
+ghost use Rattle.vme_vcd_reader.specs.Levels.{IsValue, level_of, put, with_level, value_of};
 
 /// The levels of the last 64 bits of a variable. A bit that is in none of the three is low.
 #[derive(Clone, Copy, Debug, PartialEq, Eq)]
@@ -36,6 +37,14 @@ pub(crate) fn level_of(byte: u8) -> Option<Level>
     }
 }
 
+/// Returns 64 bits with one more at their right.
+#[inline]
+pub(crate) fn put(bits: u64, bit: u64) -> u64
+    ensures { result ≡ put bits bit }
+{
+    bits.wrapping_mul(2).wrapping_add(bit)
+}
+
 impl Bits {
     /// All bits low.
     pub(crate) const LOW: Bits = Bits {
@@ -46,7 +55,9 @@ impl Bits {
 
     /// Returns the bits with a further one at the right.
     #[inline]
-    pub(crate) fn with(self, level: Level) -> Bits {
+    pub(crate) fn with(self, level: Level) -> Bits
+        ensures { result ≡ with_level self level }
+    {
         let (one, free, undefined) = match level {
             Level::Low => (0, 0, 0),
             Level::High => (1, 0, 0),
@@ -54,26 +65,28 @@ impl Bits {
             Level::Undefined => (0, 0, 1),
         };
         Bits {
-            ones: self.ones.wrapping_shl(1) | one,
-            free: self.free.wrapping_shl(1) | free,
-            undefined: self.undefined.wrapping_shl(1) | undefined,
+            ones: put(self.ones, one),
+            free: put(self.free, free),
+            undefined: put(self.undefined, undefined),
         }
     }
 
     /// Returns the bits of a value of so many digits with those that its first digit gives to the
     /// left: the same for x and z, else 0.
-    pub(crate) fn extended(self, first: Level, digits: u32) -> Bits {
+    pub(crate) fn extended(self, first: Level, digits: u32) -> Bits
+        ensures { (levels : List Level) → IsValue levels self first digits → result ≡ value_of levels }
+    {
         if 64 <= digits {
             return self;
         }
         let left = u64::MAX.wrapping_shl(digits);
         match first {
             Level::Free => Bits {
-                free: self.free | left,
+                free: self.free.wrapping_add(left),
                 ..self
             },
             Level::Undefined => Bits {
-                undefined: self.undefined | left,
+                undefined: self.undefined.wrapping_add(left),
                 ..self
             },
             Level::Low | Level::High => self,

@@ -1,4 +1,12 @@
 //! The body of a dump, byte by byte.
+ghost use Rattle.std.specs.Prelude.{◌≡◌, ◌==◌, ◌++◌, ◌∷◌, ℕ, List, [], codes, if◌then◌else◌, true, None, IfOk, OnOk, OnErr, IsTrue, ◌↔◌};
+ghost use Rattle.vme_vcd_reader.specs.declared.bits.Level.{Level};
+ghost use Rattle.vme_vcd_reader.specs.declared.body.Place.TheVariants.{Gap, Comment};
+ghost use Rattle.vme_vcd_reader.specs.Levels.{IsValue, level_of, value_of};
+ghost use Rattle.vme_vcd_reader.specs.Names.{identifier_of};
+ghost use Rattle.vme_vcd_reader.specs.Places.{HasDigits, HasOpened, HasTime, IsAt, Takes, may_end};
+ghost use Rattle.vme_vcd_reader.specs.Words.{Awaited, Statement, NoWord, blank_says, byte_says, opening, with_digit};
+
 use crate::bits::{Bits, Level, level_of};
 use crate::fault::VcdFault;
 use crate::identifier::{identifier_of, with_character};
@@ -48,9 +56,21 @@ pub(crate) struct Body {
     digits: u32,
 }
 
+/// Returns a number with one more decimal digit, if it is below 2^64.
+fn with_digit(number: u64, byte: u8) -> Option<u64>
+    ensures { result ≡ with_digit number byte }
+{
+    if byte < b'0' || b'9' < byte {
+        return None;
+    }
+    number.checked_mul(10)?.checked_add(u64::from(byte - b'0'))
+}
+
 impl Body {
     /// Returns the body before its first byte.
-    pub(crate) fn new() -> Body {
+    pub(crate) fn new() -> Body
+        ensures { IsAt Statement [] result }
+    {
         Body {
             place: Place::Gap,
             number: 0,
@@ -62,13 +82,20 @@ impl Body {
 
     /// Returns the value of the change that was completed.
     #[inline]
-    pub(crate) fn bits(&self) -> Bits {
+    pub(crate) fn bits(&self) -> Bits
+        ensures { (levels : List Level) → IsValue levels self.now.bits self.now.first self.now.digits → result ≡ value_of levels }
+    {
         self.bits.extended(self.first, self.digits)
     }
 
     /// Takes a byte.
     #[inline]
-    pub(crate) fn push(&mut self, byte: u8) -> Result<Said, VcdFault> {
+    pub(crate) fn push(&mut self, byte: u8) -> Result<Said, VcdFault>
+        ensures says { (awaited : Awaited) → (word : List ℕ) → IsAt awaited word self.old →
+            IfOk result (λ said. Takes (byte_says awaited word byte) said self.new) }
+        ensures fault { (awaited : Awaited) → (word : List ℕ) → IsAt awaited word self.old →
+            OnErr result (NoWord awaited word byte) }
+    {
         if is_blank(byte) {
             return self.end_word();
         }
@@ -92,7 +119,10 @@ impl Body {
 
     /// Begins a word.
     #[inline]
-    fn begin(&mut self, byte: u8) -> Result<(), VcdFault> {
+    fn begin(&mut self, byte: u8) -> Result<(), VcdFault>
+        ensures begun { OnOk result (HasOpened byte [] self.new (opening byte)) }
+        ensures fault { OnErr result (opening byte ≡ None) }
+    {
         self.number = 0;
         match byte {
             b'#' => {
@@ -102,6 +132,7 @@ impl Body {
             b'b' | b'B' => {
                 self.place = Place::Digits;
                 self.bits = Bits::LOW;
+                self.first = Level::Low;
                 self.digits = 0;
             }
             b'r' | b'R' | b's' | b'S' => self.place = Place::Value,
@@ -124,28 +155,25 @@ impl Body {
 
     /// Takes a digit of a vector.
     #[inline]
-    fn digit(&mut self, byte: u8) -> Result<(), VcdFault> {
+    fn digit(&mut self, byte: u8) -> Result<(), VcdFault>
+        ensures more { OnOk result ((digits : List ℕ) → HasDigits digits self.old → HasDigits (digits ++ byte ∷ []) self.new) }
+        ensures fault { OnErr result (level_of byte ≡ None) }
+    {
         let Some(level) = level_of(byte) else {
             return Err(VcdFault::BadValue);
         };
-        if self.digits == 0 {
-            self.first = level;
-        }
+        self.first = if self.digits == 0 { level } else { self.first };
         self.bits = self.bits.with(level);
         self.digits = self.digits.saturating_add(1);
         Ok(())
     }
 
     /// Takes a digit of a time.
-    fn time(&mut self, byte: u8) -> Result<(), VcdFault> {
-        if byte < b'0' || b'9' < byte {
-            return Err(VcdFault::BadTime);
-        }
-        let digit = u64::from(byte - b'0');
-        let Some(tens) = self.number.checked_mul(10) else {
-            return Err(VcdFault::BadTime);
-        };
-        let Some(number) = tens.checked_add(digit) else {
+    fn time(&mut self, byte: u8) -> Result<(), VcdFault>
+        ensures more { OnOk result ((digits : List ℕ) → HasTime digits self.old → HasTime (digits ++ byte ∷ []) self.new) }
+        ensures fault { OnErr result (with_digit self.old.number byte ≡ None) }
+    {
+        let Some(number) = with_digit(self.number, byte) else {
             return Err(VcdFault::BadTime);
         };
         self.number = number;
@@ -155,7 +183,12 @@ impl Body {
 
     /// Ends a word at a blank.
     #[inline]
-    fn end_word(&mut self) -> Result<Said, VcdFault> {
+    fn end_word(&mut self) -> Result<Said, VcdFault>
+        ensures says { (awaited : Awaited) → (word : List ℕ) → IsAt awaited word self.old →
+            IfOk result (λ said. Takes (blank_says awaited word) said self.new) }
+        ensures fault { (awaited : Awaited) → (word : List ℕ) → IsAt awaited word self.old →
+            OnErr result (blank_says awaited word ≡ None) }
+    {
         match self.place {
             Place::Gap | Place::DigitsEnd | Place::ValueEnd => {}
             Place::Identifier => {
@@ -186,7 +219,10 @@ impl Body {
     }
 
     /// Ends a keyword: a comment goes on to `$end`.
-    fn end_keyword(&mut self) {
+    fn end_keyword(&mut self)
+        ensures place { self.new.place ≡ (if self.old.number == identifier_of (codes "$comment") then Comment else Gap) }
+        ensures number { self.new.number ≡ 0 }
+    {
         self.place = if self.number == identifier_of(b"$comment") {
             Place::Comment
         } else {
@@ -197,12 +233,16 @@ impl Body {
 
     /// Returns whether the next byte begins a word.
     #[inline]
-    pub(crate) fn is_between(&self) -> bool {
+    pub(crate) fn is_between(&self) -> bool
+        ensures { IsTrue result ↔ (self.now.place ≡ Gap) }
+    {
         self.place == Place::Gap
     }
 
     /// Returns whether the text may end here, after a blank.
-    pub(crate) fn may_end(&self) -> bool {
+    pub(crate) fn may_end(&self) -> bool
+        ensures { (awaited : Awaited) → IsAt awaited [] self.now → result ≡ may_end awaited }
+    {
         self.place == Place::Gap || self.place == Place::Comment
     }
 }

@@ -1,5 +1,11 @@
 //! The lines of the bus, as the changes before have left them.
+ghost use Rattle.std.specs.Prelude.{◌≡◌};
+ghost use Rattle.vme_vcd_reader.specs.Buses.{after_change, any_of, bus_after, defined_lane, defined_lanes, level_set, level_sets, port_after, port_changed, sample_lines, sample_of, showing, slot_after, with_slot};
+ghost use Rattle.vme_vcd_reader.specs.Changes.{level_after, undefined_after};
+ghost use Rattle.vme_line_map.specs.declared.group.Group.TheVariants.{Modifier};
+
 use crate::bits::Bits;
+use crate::change::Change;
 use crate::variable::Mapped;
 use vme_line_map::Group;
 use vme_protocol::{Port, Sample};
@@ -59,78 +65,41 @@ const BUSY: u32 = 64;
 /// LWORD* among the lines of a sample, and the place of A00, which is not one of them.
 const LONG_WORD: u64 = 1 << 32;
 
-/// The lines of a group that a change gives new levels, in the place of the group's lines.
-#[derive(Clone, Copy)]
-struct Change {
-    mask: u32,
-    ones: u32,
-    free: u32,
-    undefined: u32,
-}
-
-impl Change {
-    /// The levels that the bits of a variable give to lines.
-    fn of(mapped: &Mapped, bits: &Bits) -> Change {
-        let mask = mapped.mask;
-        let free = placed(mapped, bits.free);
-        let undefined = placed(mapped, bits.undefined);
-        let ones = placed(mapped, bits.ones);
-        let ones = if mapped.is_inverted { !ones } else { ones };
-        Change {
-            mask,
-            ones: ones & mask & !free & !undefined,
-            free: free & mask,
-            undefined: undefined & mask,
-        }
-    }
-
-    /// Whether the line of a group of one is high. It is high if nothing drives it.
-    fn is_high(self) -> bool {
-        self.ones | self.free != 0
-    }
-
-    /// Whether it is undefined.
-    fn is_undefined(self) -> bool {
-        self.undefined != 0
-    }
-
-    /// The new value of the lines of a group.
-    fn in_place(self, old: u32) -> u32 {
-        old & !self.mask | self.ones
-    }
-
-    /// The lines that are not driven or undefined, after the change.
-    fn idle_in(self, old: u32) -> u32 {
-        old & !self.mask | self.free | self.undefined
-    }
-}
-
-/// Bits of a variable at the places of their lines.
-fn placed(mapped: &Mapped, bits: u64) -> u32 {
-    let bits = bits
-        .wrapping_shr(u32::from(mapped.right))
-        .wrapping_shl(u32::from(mapped.first));
-    (bits & 0xffff_ffff) as u32
-}
-
 /// A set of slots with one of them in it or not.
-fn with_slot(slots: u32, slot: u8, is_in: bool) -> u32 {
+fn with_slot(slots: u32, slot: u8, is_in: bool) -> u32
+    ensures { result ≡ with_slot slots slot is_in }
+{
     let bit = 1u32.wrapping_shl(u32::from(slot.wrapping_sub(1)));
     if is_in { slots | bit } else { slots & !bit }
 }
 
-/// The four sets of slots of four levels after a change of a slot's lines.
-fn leveled(sets: &mut [u32; 4], change: Change, lines: u32, slot: u8) {
-    for (level, set) in sets.iter_mut().enumerate() {
-        let bit = 1u32.wrapping_shl(level as u32);
-        if change.mask & bit != 0 {
-            *set = with_slot(*set, slot, lines & bit != 0);
-        }
+/// The set of slots of one level, whose line is `bit`, after a change of a slot's lines.
+fn level_set(set: u32, bit: u32, change: Change, lines: u32, slot: u8) -> u32
+    ensures { result ≡ level_set set bit change lines slot }
+{
+    if change.mask & bit != 0 {
+        with_slot(set, slot, lines & bit != 0)
+    } else {
+        set
     }
 }
 
+/// The four sets of slots of four levels after a change of a slot's lines.
+fn level_sets(sets: [u32; 4], change: Change, lines: u32, slot: u8) -> [u32; 4]
+    ensures { result ≡ level_sets sets change lines slot }
+{
+    [
+        level_set(sets[0], 1, change, lines, slot),
+        level_set(sets[1], 2, change, lines, slot),
+        level_set(sets[2], 4, change, lines, slot),
+        level_set(sets[3], 8, change, lines, slot),
+    ]
+}
+
 /// The slots in any of four sets.
-fn any_of(sets: &[u32; 4]) -> u32 {
+fn any_of(sets: &[u32; 4]) -> u32
+    ensures { result ≡ any_of sets.now }
+{
     sets[0] | sets[1] | sets[2] | sets[3]
 }
 
@@ -166,12 +135,16 @@ impl BusLines {
     }
 
     /// Notes whether the dump has BBSY* of the bus; else no slot drives it where it is high.
-    pub(crate) fn set_has_busy(&mut self, has_busy: bool) {
+    pub(crate) fn set_has_busy(&mut self, has_busy: bool)
+        ensures { self.new ≡ record self.old { has_busy = has_busy } }
+    {
         self.has_busy = has_busy;
     }
 
     /// Returns the sample of these lines at a time.
-    pub fn sample(&self, time: u64) -> Sample {
+    pub fn sample(&self, time: u64) -> Sample
+        ensures { result ≡ sample_of self.now time }
+    {
         let slots = self.undefined_drivers
             | any_of(&self.undefined_requests)
             | any_of(&self.undefined_grants);
@@ -216,14 +189,19 @@ impl BusLines {
     }
 
     /// Returns the slots whose ports have changed since the last call.
-    pub fn take_changed_ports(&mut self) -> u32 {
+    pub fn take_changed_ports(&mut self) -> u32
+        ensures slots { result ≡ self.old.changed_ports }
+        ensures none { self.new ≡ record self.old { changed_ports = 0 } }
+    {
         let changed = self.changed_ports;
         self.changed_ports = 0;
         changed
     }
 
     /// Takes a change of a variable.
-    pub(crate) fn change(&mut self, mapped: &Mapped, bits: &Bits) {
+    pub(crate) fn change(&mut self, mapped: &Mapped, bits: &Bits)
+        ensures { self.new ≡ bus_after self.old mapped.now bits.now }
+    {
         let change = Change::of(mapped, bits);
         match mapped.group {
             Group::AddressStrobe => {
@@ -252,7 +230,10 @@ impl BusLines {
     }
 
     /// The level of a control line after a change.
-    fn control(&mut self, line: u32, change: Change) -> bool {
+    fn control(&mut self, line: u32, change: Change) -> bool
+        ensures level { result ≡ level_after change }
+        ensures undefined { self.new ≡ record self.old { undefined = undefined_after change line self.old.undefined } }
+    {
         if change.is_undefined() {
             self.undefined |= line;
         } else {
@@ -262,7 +243,9 @@ impl BusLines {
     }
 
     /// AM5 to AM0 after a change.
-    fn modifier(&mut self, change: Change) {
+    fn modifier(&mut self, change: Change)
+        ensures { self.new ≡ after_change self.old Modifier change }
+    {
         self.idle_modifier = change.idle_in(self.idle_modifier);
         let code = change.in_place(u32::from(self.sample.am));
         self.sample.am = (code & 63) as u8;
@@ -270,7 +253,9 @@ impl BusLines {
     }
 
     /// The address, LWORD* or the data lines after a change, of which those of `own` are meant.
-    fn lines(&mut self, change: Change, own: u64, place: u32) {
+    fn lines(&mut self, change: Change, own: u64, place: u32)
+        ensures { self.new ≡ showing self.old (sample_lines change own place self.old.sample) }
+    {
         let mask = u64::from(change.mask).wrapping_shl(place) & own;
         let ones = u64::from(change.ones).wrapping_shl(place) & own;
         let idle = u64::from(change.free | change.undefined).wrapping_shl(place) & own;
@@ -279,7 +264,9 @@ impl BusLines {
     }
 
     /// The lines of a slot after a change.
-    fn slot_change(&mut self, group: Group, change: Change) {
+    fn slot_change(&mut self, group: Group, change: Change)
+        ensures { self.new ≡ slot_after self.old group change }
+    {
         let low = change.mask & !change.ones & !change.free & !change.undefined;
         match group {
             Group::SlotBusy(slot) => {
@@ -291,60 +278,91 @@ impl BusLines {
                 self.sample.drivers = with_slot(self.sample.drivers, slot, low != 0);
             }
             Group::SlotRequest(slot) => {
-                leveled(&mut self.requests, change, low, slot);
-                leveled(&mut self.undefined_requests, change, change.undefined, slot);
+                self.requests = level_sets(self.requests, change, low, slot);
+                self.undefined_requests = level_sets(
+                    self.undefined_requests,
+                    change,
+                    change.undefined,
+                    slot,
+                );
             }
             Group::SlotGrant(slot) => {
-                leveled(&mut self.grants, change, low, slot);
-                leveled(&mut self.undefined_grants, change, change.undefined, slot);
+                self.grants = level_sets(self.grants, change, low, slot);
+                self.undefined_grants = level_sets(
+                    self.undefined_grants,
+                    change,
+                    change.undefined,
+                    slot,
+                );
             }
             Group::PortWrite(slot)
             | Group::PortOffset(slot)
             | Group::PortData(slot)
             | Group::PortDone(slot) => {
-                self.changed_ports = with_slot(self.changed_ports, slot, true);
-                if let Some(lines) = self.ports.get_mut(usize::from(slot).wrapping_sub(1)) {
-                    lines.change(group, change);
-                }
+                self.port_change(slot, group, change);
             }
             _ => {}
+        }
+    }
+
+    /// The lines of a slot's local port after a change.
+    fn port_change(&mut self, slot: u8, group: Group, change: Change)
+        ensures { self.new ≡ port_changed self.old slot group change }
+    {
+        self.changed_ports = with_slot(self.changed_ports, slot, true);
+        if 1 <= slot && usize::from(slot) <= SLOTS {
+            let place = usize::from(slot - 1);
+            let lines = self.ports[place];
+            self.ports[place] = lines.changed(group, change);
         }
     }
 }
 
 impl PortLines {
     /// The lines of a local port after a change. Its lines are low where nothing drives them.
-    fn change(&mut self, group: Group, change: Change) {
-        let is_idle = change.free | change.undefined != 0;
+    fn changed(self, group: Group, change: Change) -> PortLines
+        ensures { result ≡ port_after self group change }
+    {
+        let mut after = self;
         match group {
             Group::PortWrite(_) => {
-                self.port.write = change.ones != 0;
-                self.undefined_write = is_idle;
+                after.port.write = change.ones != 0;
+                after.undefined_write = change.free | change.undefined != 0;
             }
             Group::PortOffset(_) => {
-                self.port.offset = change.in_place(self.port.offset);
-                self.undefined_offset = change.idle_in(self.undefined_offset);
+                after.port.offset = change.in_place(self.port.offset);
+                after.undefined_offset = change.idle_in(self.undefined_offset);
             }
             Group::PortData(_) => {
-                self.port.data = change.in_place(self.port.data);
-                self.idle = change.idle_in(self.idle);
-                self.port.lanes = defined_lanes(self.idle);
+                after.port.data = change.in_place(self.port.data);
+                after.idle = change.idle_in(self.idle);
+                after.port.lanes = defined_lanes(after.idle);
             }
-            Group::PortDone(_) => self.port.done = change.ones != 0,
+            Group::PortDone(_) => after.port.done = change.ones != 0,
             _ => {}
         }
-        self.port.undefined = self.undefined_write || self.undefined_offset != 0;
+        after.port.undefined = after.undefined_write || after.undefined_offset != 0;
+        after
+    }
+}
+
+/// The lane of which each line, from a place on, is driven, as a bit.
+fn defined_lane(idle: u32, place: u32, lane: u8) -> u8
+    ensures { result ≡ defined_lane idle place lane }
+{
+    if idle.wrapping_shr(place) & 255 == 0 {
+        lane
+    } else {
+        0
     }
 }
 
 /// The lanes of which each line is driven, from D07 to D00 up.
-fn defined_lanes(idle: u32) -> u8 {
-    let [third, second, first, zeroth] = idle.to_be_bytes();
-    let mut lanes = 0u8;
-    for (lane, byte) in [zeroth, first, second, third].iter().enumerate() {
-        if *byte == 0 {
-            lanes |= 1u8.wrapping_shl(lane as u32);
-        }
-    }
-    lanes
+fn defined_lanes(idle: u32) -> u8
+    ensures { result ≡ defined_lanes idle }
+{
+    defined_lane(idle, 0, 1)
+        | defined_lane(idle, 8, 2)
+        | defined_lane(idle, 16, 4)
+        | defined_lane(idle, 24, 8)
 }

@@ -1,4 +1,6 @@
 //! The identifiers of variables, as numbers.
+ghost use Rattle.std.specs.Prelude.{◌≡◌};
+ghost use Rattle.vme_vcd_reader.specs.Names.{with_character, identifier_of};
 
 /// No identifier: that of all with more than nine characters.
 pub(crate) const NO_IDENTIFIER: u64 = u64::MAX;
@@ -8,7 +10,9 @@ const MOST: u64 = 95 * 95 * 95 * 95 * 95 * 95 * 95 * 95;
 
 /// Returns the identifier with one more character. The empty one is 0.
 #[inline]
-pub(crate) fn with_character(identifier: u64, byte: u8) -> u64 {
+pub(crate) fn with_character(identifier: u64, byte: u8) -> u64
+    ensures { result ≡ with_character identifier byte }
+{
     if MOST <= identifier || byte < 33 || 126 < byte {
         return NO_IDENTIFIER;
     }
@@ -16,7 +20,9 @@ pub(crate) fn with_character(identifier: u64, byte: u8) -> u64 {
 }
 
 /// Returns the identifier that a word is.
-pub(crate) fn identifier_of(word: &[u8]) -> u64 {
+pub(crate) fn identifier_of(word: &[u8]) -> u64
+    ensures { result ≡ identifier_of word.now }
+{
     let mut identifier = 0;
     for byte in word {
         identifier = with_character(identifier, *byte);

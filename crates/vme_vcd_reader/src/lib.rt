@@ -5,6 +5,7 @@
 mod bits;
 mod body;
 mod bus;
+mod change;
 mod fault;
 mod header;
 mod identifier;

@@ -1,5 +1,11 @@
 //! A dump as the levels of lines at its times.
-use crate::bits::Bits;
+ghost use Rattle.std.specs.Prelude.{◌≡◌, ◌||◌, List, false, None, IfOk, OnErr};
+ghost use Rattle.vme_vcd_reader.specs.declared.bits.Level.{Level};
+ghost use Rattle.vme_vcd_reader.specs.Bodies.{Reading, byte_taken, time_taken};
+ghost use Rattle.vme_vcd_reader.specs.Levels.{IsValue, value_of};
+ghost use Rattle.vme_vcd_reader.specs.Readers.{IsBroken, IsReading, TakesRead, rows_of};
+ghost use Rattle.vme_vcd_reader.specs.Tables.{IsLinked, has_variable, variables_after};
+
 use crate::body::{Body, Said};
 use crate::bus::BusLines;
 use crate::fault::VcdFault;
@@ -134,8 +140,10 @@ impl<'a> VcdReader<'a> {
             return Ok(None);
         }
         if let Some(quick) = quick_change(text) {
-            for mapped in self.table.with(quick.identifier) {
-                self.bus.change(mapped, &quick.bits);
+            if self
+                .table
+                .change(quick.identifier, &quick.bits, &mut self.bus)
+            {
                 self.is_changed = true;
             }
             self.line = self.line.wrapping_add(1);
@@ -192,7 +200,12 @@ impl<'a> VcdReader<'a> {
 
     /// Takes a byte of the body.
     #[inline]
-    fn push_body(&mut self, byte: u8) -> Result<Step, VcdFault> {
+    fn push_body(&mut self, byte: u8) -> Result<Step, VcdFault>
+        ensures says { (r : Reading) → IsReading r self.old →
+            IfOk result (λ step. TakesRead (byte_taken (rows_of self.old) r byte) step self.new) }
+        ensures fault { (r : Reading) → IsReading r self.old → OnErr result (IsBroken (rows_of self.old) r byte) }
+        ensures table { self.new.table ≡ self.old.table }
+    {
         match self.body.push(byte)? {
             Said::Nothing => Ok(Step::More),
             Said::Change(identifier) => {
@@ -205,21 +218,28 @@ impl<'a> VcdReader<'a> {
 
     /// Takes the change of a variable.
     #[inline]
-    fn change(&mut self, identifier: u64) {
-        let mut bits: Option<Bits> = None;
-        for mapped in self.table.with(identifier) {
-            let value = match bits {
-                Some(value) => value,
-                None => self.body.bits(),
-            };
-            bits = Some(value);
-            self.bus.change(mapped, &value);
+    fn change(&mut self, identifier: u64)
+        ensures lines { (levels : List Level) → IsValue levels self.old.body.bits self.old.body.first self.old.body.digits →
+            IsLinked self.old.table.rows.items self.old.table.heads.items →
+            self.new ≡ record self.old {
+              bus = variables_after (rows_of self.old) identifier (value_of levels) self.old.bus;
+              is_changed = self.old.is_changed || has_variable (rows_of self.old) identifier;
+            } }
+        ensures table { self.new.table ≡ self.old.table }
+    {
+        let bits = self.body.bits();
+        if self.table.change(identifier, &bits, &mut self.bus) {
             self.is_changed = true;
         }
     }
 
     /// Takes a time. A time that repeats the one before it completes nothing.
-    fn at_time(&mut self, time: u64) -> Result<Step, VcdFault> {
+    fn at_time(&mut self, time: u64) -> Result<Step, VcdFault>
+        ensures says { (r : Reading) → IsReading r self.old →
+            IfOk result (λ step. TakesRead (time_taken r r.time time) step self.new) }
+        ensures fault { (r : Reading) → IsReading r self.old → OnErr result (time_taken r r.time time ≡ None) }
+        ensures table { self.new.table ≡ self.old.table }
+    {
         if !self.is_begun {
             self.is_begun = true;
             self.time = time;
@@ -239,7 +259,14 @@ impl<'a> VcdReader<'a> {
     }
 
     /// Completes the sample of the time before.
-    fn complete(&mut self) {
+    fn complete(&mut self)
+        ensures { self.new ≡ record self.old {
+          sample_time = self.old.time;
+          sample_line = self.old.time_line;
+          sample_is_changed = self.old.is_changed;
+          is_changed = false;
+        } }
+    {
         self.sample_time = self.time;
         self.sample_line = self.time_line;
         self.sample_is_changed = self.is_changed;

@@ -1,46 +1,41 @@
 //! The variables that are mapped, by their identifiers.
+ghost use Rattle.std.specs.Prelude.{◌≡◌, ◌≤◌, ◌<◌, length, slice_index};
+ghost use Rattle.vme_vcd_reader.specs.Tables.{IsLinked, IsLink, has_variable, place_of, variables_after};
+
+use crate::bits::Bits;
+use crate::bus::BusLines;
 use crate::variable::Mapped;
 use std::alloc::{AllocError, Global};
 
 /// The greatest number of mapped variables.
 pub(crate) const MOST_MAPPED: usize = 1_000;
 
-/// The number of places of the table, a power of two above the number of variables.
+/// The number of lists of variables.
 const PLACES: usize = 2_048;
 
-/// The end of a list of variables.
-const END: u16 = u16::MAX;
-
-/// A variable that is mapped, and the next one with the same identifier.
+/// A variable that is mapped, with the number of the one before it in its list: from 1, or 0 if there
+/// is none.
 #[derive(Clone, Copy, Debug)]
 struct Row {
+    identifier: u64,
     mapped: Mapped,
     next: u16,
 }
 
-/// An identifier and its first variable.
-#[derive(Clone, Copy, Debug)]
-struct Entry {
-    identifier: u64,
-    first: u16,
-}
-
-/// No identifier.
-const NONE: Entry = Entry {
-    identifier: 0,
-    first: END,
-};
-
-/// The variables that are mapped, by their identifiers.
+/// The variables that are mapped, in lists by their identifiers.
 #[derive(Drop)]
 pub(crate) struct Table {
     rows: Vec<Row>,
-    places: Vec<Entry>,
+    /// The number of the last variable of each list, from 1.
+    heads: Vec<u16>,
 }
 
-/// The place at which an identifier is sought first.
+/// The list in which an identifier is sought.
 #[inline]
-fn place_of(identifier: u64) -> usize {
+fn place_of(identifier: u64) -> usize
+    ensures place { result ≡ place_of identifier }
+    ensures within { result < 2048 }
+{
     (identifier.wrapping_mul(0x9e37_79b9_7f4a_7c15) >> 53) as usize
 }
 
@@ -49,97 +44,74 @@ impl Table {
     pub(crate) fn new(alloc: Global) -> Table {
         Table {
             rows: Vec::new(alloc),
-            places: Vec::new(alloc),
+            heads: Vec::new(alloc),
         }
     }
 
-    /// Allocates the places.
+    /// Allocates the lists.
     pub(crate) fn begin(&mut self) -> Result<(), AllocError> {
         for _ in 0..PLACES {
-            self.places.push(NONE)?;
+            self.heads.push(0)?;
         }
         Ok(())
     }
 
     /// Adds a variable, unless the table is full.
     pub(crate) fn add(&mut self, identifier: u64, mapped: Mapped) -> Result<bool, AllocError> {
-        let Ok(number) = u16::try_from(self.rows.len()) else {
-            return Ok(false);
-        };
         if MOST_MAPPED <= self.rows.len() {
             return Ok(false);
         }
-        let next = self.first(identifier);
-        self.rows.push(Row { mapped, next })?;
-        let mut place = place_of(identifier);
-        for _ in 0..PLACES {
-            if let Some(entry) = self.places.as_mut_slice().get_mut(place) {
-                if entry.first == END || entry.identifier == identifier {
-                    *entry = Entry {
-                        identifier,
-                        first: number,
-                    };
-                    return Ok(true);
-                }
-            }
-            place = place.wrapping_add(1) % PLACES;
-        }
-        Ok(false)
+        let number = self.rows.len() as u16 + 1;
+        let place = place_of(identifier);
+        let Some(head) = self.heads.as_slice().get(place) else {
+            return Ok(false);
+        };
+        let next = *head;
+        self.rows.push(Row {
+            identifier,
+            mapped,
+            next,
+        })?;
+        self.heads[place] = number;
+        Ok(true)
     }
 
-    /// Returns the number of the first variable with an identifier, or `END`.
+    /// Returns the number of the last variable in the list of an identifier, from 1, or 0.
     #[inline]
-    fn first(&self, identifier: u64) -> u16 {
-        let mut place = place_of(identifier);
-        for _ in 0..PLACES {
-            let Some(entry) = self.places.as_slice().get(place) else {
-                return END;
+    fn first(&self, identifier: u64) -> u16
+        ensures { IsLinked self.now.rows.items self.now.heads.items →
+            IsLink self.now.rows.items result (length self.now.rows.items) (place_of identifier) }
+    {
+        match self.heads.as_slice().get(place_of(identifier)) {
+            Some(head) => *head,
+            None => 0,
+        }
+    }
+
+    /// Changes the lines of the variables with an identifier, and returns whether there is one.
+    #[inline]
+    pub(crate) fn change(&self, identifier: u64, bits: &Bits, bus: &mut BusLines) -> bool
+        ensures bus { IsLinked self.now.rows.items self.now.heads.items →
+            bus.new ≡ variables_after self.now.rows.items identifier bits.now bus.old }
+        ensures some { IsLinked self.now.rows.items self.now.heads.items →
+            result ≡ has_variable self.now.rows.items identifier }
+    {
+        let mut has_variable = false;
+        let mut link = self.first(identifier);
+        while link != 0 {
+            let Some(row) = self.rows.as_slice().get(usize::from(link - 1)) else {
+                break;
             };
-            if entry.first == END {
-                return END;
+            if row.identifier == identifier {
+                bus.change(&row.mapped, bits);
+                has_variable = true;
             }
-            if entry.identifier == identifier {
-                return entry.first;
+            // Each list goes back.
+            if link <= row.next {
+                break;
             }
-            place = place.wrapping_add(1) % PLACES;
+            link = row.next;
         }
-        END
-    }
-
-    /// Returns an iterator over the variables with an identifier.
-    #[inline]
-    pub(crate) fn with(&self, identifier: u64) -> Rows<'_> {
-        Rows {
-            rows: self.rows.as_slice(),
-            next: self.first(identifier),
-            left: MOST_MAPPED,
-        }
-    }
-}
-
-/// An iterator over the variables with one identifier.
-#[derive(Clone, Copy)]
-pub(crate) struct Rows<'a> {
-    rows: &'a [Row],
-    next: u16,
-    left: usize,
-}
-
-impl<'a> Iterator for Rows<'a> {
-    ghost use Rattle.std.specs.Iterator.{at_most};
-
-    type Item = &'a Mapped;
-
-    ghost remaining = { λ s. at_most s.left };
-
-    #[inline]
-    fn next(&mut self) -> Option<&'a Mapped> {
-        if self.left == 0 {
-            return None;
-        }
-        self.left -= 1;
-        let row = self.rows.get(usize::from(self.next))?;
-        self.next = row.next;
-        Some(&row.mapped)
+        has_variable
     }
 }

@@ -1,4 +1,7 @@
 //! A word of the header.
+ghost use Rattle.std.specs.Prelude.{◌≡◌};
+ghost use Rattle.vme_vcd_reader.specs.Words.{is_blank};
+
 use arrayvec::ArrayVec;
 
 /// The greatest length of a word that is read.
@@ -51,6 +54,8 @@ impl Word {
 
 /// Returns whether a byte is a blank.
 #[inline]
-pub(crate) fn is_blank(byte: u8) -> bool {
+pub(crate) fn is_blank(byte: u8) -> bool
+    ensures { result ≡ is_blank byte }
+{
     matches!(byte, b' ' | b'\n' | b'\t' | b'\r' | 11 | 12)
 }

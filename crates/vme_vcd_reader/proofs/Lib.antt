@@ -1,0 +1,5 @@
+pub mod Values
+pub mod Digits
+pub mod Words
+pub mod Tables
+pub mod Bodies

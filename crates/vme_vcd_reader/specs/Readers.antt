@@ -1,0 +1,40 @@
+-- How a reader remembers a body.
+use Rattle.std.specs.Prelude.{◌≡◌, ℕ, Bool, if◌then◌else◌, List, ◌∷◌, Option, Some, None}
+use Rattle.vme_vcd_reader.specs.declared.reader.Step.{Step}
+use Rattle.vme_vcd_reader.specs.declared.reader.Step.TheVariants as steps
+use Rattle.vme_vcd_reader.specs.declared.reader.VcdReader.{VcdReader}
+use Rattle.vme_vcd_reader.specs.declared.table.Row.{Row}
+use Rattle.vme_vcd_reader.specs.Bodies.{Reading, Shown, Broken, samples_of}
+use Rattle.vme_vcd_reader.specs.Places.{IsAt}
+use Rattle.vme_vcd_reader.specs.Tables.{IsLinked}
+
+-- the variables that a reader has mapped
+abbrev pub rows_of : VcdReader → List Row
+rows_of v = v.table.rows.items
+
+-- the time whose changes are read
+abbrev pub time_of : VcdReader → Option ℕ
+time_of v = if v.is_begun then Some v.time else None
+
+-- a reader has read a body as far
+pub record IsReading (r : Reading) (v : VcdReader) : Type 0 where
+  pub body : IsAt r.awaited r.word v.body
+  pub table : IsLinked v.table.rows.items v.table.heads.items
+  pub lines : v.bus ≡ r.lines
+  pub time : r.time ≡ time_of v
+  pub changed : r.changed ≡ v.is_changed
+
+-- a reader reports a sample, or none
+abbrev pub ReportsSample : Option Shown → Step → VcdReader → Type 0
+ReportsSample None step v = step ≡ steps.More
+ReportsSample (Some shown) step v =
+    (step ≡ steps.Sample) × (v.sample_time ≡ shown.time) × (v.bus ≡ shown.lines) × (v.sample_is_changed ≡ shown.changed)
+
+-- a reader has taken what was read, and reports the sample that it completes
+abbrev pub TakesRead : Option (Reading × Option Shown) → Step → VcdReader → Type 0
+TakesRead None step v = ⊥
+TakesRead (Some taken) step v = IsReading taken.0 v × ReportsSample taken.1 step v
+
+-- no body goes on with a byte, whatever follows
+abbrev pub IsBroken : List Row → Reading → ℕ → Type 0
+IsBroken rows r b = (rest : List ℕ) → samples_of rows r (b ∷ rest) ≡ Broken
