@@ -69,7 +69,7 @@ says_time rows r at (Change identifier levels) time body v new result takes is g
 says_time rows r at (At other) time body v new result takes is goes =
     let same : time ≡ other = cc (takes.1) in
     subst (λ t. IfOk result (λ step. TakesRead (time_taken (at_word r at) r.time t) step new)) same
-    (goes (at_word r at) (record { body = takes.0; table = is.table; lines = is.lines; time = is.time; changed = is.changed }))
+    (goes (at_word r at) (record { entered = is.entered; body = takes.0; table = is.table; lines = is.lines; time = is.time; changed = is.changed }))
 
 pub takes_time : (rows : List Row) (r : Reading) (o : Option ((Awaited × List ℕ) × Fact)) (time : ℕ) (body : Body) (v new : VcdReader)
     (result : Result Step VcdFault) → Takes o (said.Time time) body → IsReading r v
@@ -92,7 +92,7 @@ says_fault rows r at (Change identifier levels) time body v result takes is goes
 says_fault rows r at (At other) time body v result takes is goes =
     let same : time ≡ other = cc (takes.1) in
     subst (λ t. OnErr result (time_taken (at_word r at) r.time t ≡ None)) same
-    (goes (at_word r at) (record { body = takes.0; table = is.table; lines = is.lines; time = is.time; changed = is.changed }))
+    (goes (at_word r at) (record { entered = is.entered; body = takes.0; table = is.table; lines = is.lines; time = is.time; changed = is.changed }))
 
 fault_by : (rows : List Row) (r : Reading) (o : Option ((Awaited × List ℕ) × Fact)) (time : ℕ) (body : Body) (v : VcdReader) (result : Result Step VcdFault)
     → Takes o (said.Time time) body → IsReading r v

@@ -1,10 +1,10 @@
 -- How a reader remembers a body.
-use Rattle.std.specs.Prelude.{◌≡◌, ℕ, Bool, if◌then◌else◌, List, ◌∷◌, Option, Some, None}
+use Rattle.std.specs.Prelude.{◌≡◌, ℕ, Bool, true, if◌then◌else◌, List, ◌∷◌, Option, Some, None}
 use Rattle.vme_vcd_reader.specs.declared.reader.Step.{Step}
 use Rattle.vme_vcd_reader.specs.declared.reader.Step.TheVariants as steps
 use Rattle.vme_vcd_reader.specs.declared.reader.VcdReader.{VcdReader}
 use Rattle.vme_vcd_reader.specs.declared.table.Row.{Row}
-use Rattle.vme_vcd_reader.specs.Bodies.{Reading, Shown, Broken, samples_of}
+use Rattle.vme_vcd_reader.specs.Bodies.{Reading, Shown, Samples, Sample, End, Broken, samples_of}
 use Rattle.vme_vcd_reader.specs.Places.{IsAt}
 use Rattle.vme_vcd_reader.specs.Tables.{IsLinked}
 
@@ -16,8 +16,9 @@ rows_of v = v.table.rows.items
 abbrev pub time_of : VcdReader → Option ℕ
 time_of v = if v.is_begun then Some v.time else None
 
--- a reader has read a body as far
+-- a reader has read the header, and a body as far
 pub record IsReading (r : Reading) (v : VcdReader) : Type 0 where
+  pub entered : v.is_body ≡ true
   pub body : IsAt r.awaited r.word v.body
   pub table : IsLinked v.table.rows.items v.table.heads.items
   pub lines : v.bus ≡ r.lines
@@ -38,3 +39,13 @@ TakesRead (Some taken) step v = IsReading taken.0 v × ReportsSample taken.1 ste
 -- no body goes on with a byte, whatever follows
 abbrev pub IsBroken : List Row → Reading → ℕ → Type 0
 IsBroken rows r b = (rest : List ℕ) → samples_of rows r (b ∷ rest) ≡ Broken
+
+-- the samples that are left at the end of a text: that of the time whose changes are read
+abbrev pub samples_left : VcdReader → Samples
+samples_left v = if v.is_begun then Sample (record { time = v.time; lines = v.bus; changed = v.is_changed }) End else End
+
+-- a reader reports the first of the last samples of a text, if there is one, and has the others left
+abbrev pub ReportsLast : Samples → Step → VcdReader → Type 0
+ReportsLast Broken step v = ⊥
+ReportsLast End step v = (step ≡ steps.More) × (samples_left v ≡ End)
+ReportsLast (Sample shown samples) step v = ReportsSample (Some shown) step v × (samples_left v ≡ samples)

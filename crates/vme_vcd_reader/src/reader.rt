@@ -3,7 +3,7 @@ ghost use Rattle.std.specs.Prelude.{◌≡◌, ◌||◌, List, false, None, IfOk
 ghost use Rattle.vme_vcd_reader.specs.declared.bits.Level.{Level};
 ghost use Rattle.vme_vcd_reader.specs.Bodies.{Reading, byte_taken, time_taken};
 ghost use Rattle.vme_vcd_reader.specs.Levels.{IsValue, value_of};
-ghost use Rattle.vme_vcd_reader.specs.Readers.{IsBroken, IsReading, TakesRead, rows_of};
+ghost use Rattle.vme_vcd_reader.specs.Readers.{IsBroken, IsReading, ReportsLast, TakesRead, rows_of, samples_left};
 ghost use Rattle.vme_vcd_reader.specs.Tables.{IsLinked, has_variable, variables_after};
 
 use crate::body::{Body, Said};
@@ -115,7 +115,12 @@ impl<'a> VcdReader<'a> {
     ///
     /// Why the text is no dump; `line` is then the number of its line.
     #[inline]
-    pub fn push(&mut self, byte: u8) -> Result<Step, VcdFault> {
+    pub fn push(&mut self, byte: u8) -> Result<Step, VcdFault>
+        ensures says { (r : Reading) → IsReading r self.old →
+            IfOk result (λ step. TakesRead (byte_taken (rows_of self.old) r byte) step self.new) }
+        ensures fault { (r : Reading) → IsReading r self.old → OnErr result (IsBroken (rows_of self.old) r byte) }
+        ensures rows { (r : Reading) → IsReading r self.old → rows_of self.new ≡ rows_of self.old }
+    {
         let step = if self.is_body {
             self.push_body(byte)?
         } else {
@@ -176,7 +181,9 @@ impl<'a> VcdReader<'a> {
     }
 
     /// Returns the last sample, if there is one that was not completed before.
-    pub fn last_sample(&mut self) -> Step {
+    pub fn last_sample(&mut self) -> Step
+        ensures { ReportsLast (samples_left self.old) result self.new }
+    {
         if !self.is_begun {
             return Step::More;
         }
