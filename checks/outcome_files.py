@@ -55,7 +55,7 @@ FILES = {
     "buffering": (BUFFERING, 3, 12, 8),
     "rotating": (ROTATING, 3, None, None),
     "waiting": (WAITING, 3, None, None),
-    "torn": (TORN, 4, 25, None),
+    "torn": (TORN, 4, 15, None),
     "lost": (LOST, 3, 9, None),
     "idle": (IDLE, 1, 1, 0),
     # Attempts that fail are not counted: the same states with 2 tries and with 300. With as many lines as tries they are.
