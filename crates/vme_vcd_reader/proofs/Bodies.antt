@@ -15,14 +15,14 @@ use Rattle.vme_vcd_reader.specs.Readers.{IsBroken, IsReading, TakesRead, rows_of
 use Rattle.vme_vcd_reader.specs.Words.{is_blank, Awaited, Fact, Silence, At, Change, word_says, blank_says, byte_says, NoWord}
 
 -- what a byte says, taken
-abbrev says_taken : List Row → Reading → Option ((Awaited × List ℕ) × Fact) → Option (Reading × Option Shown)
+abbrev pub says_taken : List Row → Reading → Option ((Awaited × List ℕ) × Fact) → Option (Reading × Option Shown)
 says_taken rows r o = option_and_then (λ (says : (Awaited × List ℕ) × Fact). fact_taken rows (at_word r says.0) says.1) o
 
 -- what a word says, at its end
-abbrev ended : Option (Awaited × Fact) → Option ((Awaited × List ℕ) × Fact)
+abbrev pub ended : Option (Awaited × Fact) → Option ((Awaited × List ℕ) × Fact)
 ended o = option_map (λ (says : Awaited × Fact). ((says.0, []), says.1)) o
 
-abbrev reading : Awaited → List ℕ → BusLines → Option ℕ → Bool → Reading
+abbrev pub reading : Awaited → List ℕ → BusLines → Option ℕ → Bool → Reading
 reading awaited word lines time changed = record { awaited = awaited; word = word; lines = lines; time = time; changed = changed }
 
 -- a word that no dump has breaks the text, however it goes on
@@ -94,7 +94,7 @@ says_fault rows r at (At other) time body v result takes is goes =
     subst (λ t. OnErr result (time_taken (at_word r at) r.time t ≡ None)) same
     (goes (at_word r at) (record { entered = is.entered; body = takes.0; table = is.table; lines = is.lines; time = is.time; changed = is.changed }))
 
-fault_by : (rows : List Row) (r : Reading) (o : Option ((Awaited × List ℕ) × Fact)) (time : ℕ) (body : Body) (v : VcdReader) (result : Result Step VcdFault)
+pub fault_by : (rows : List Row) (r : Reading) (o : Option ((Awaited × List ℕ) × Fact)) (time : ℕ) (body : Body) (v : VcdReader) (result : Result Step VcdFault)
     → Takes o (said.Time time) body → IsReading r v
     → ((q : Reading) → IsReading q (with_body v body) → OnErr result (time_taken q q.time time ≡ None))
     → OnErr result (says_taken rows r o ≡ None)

@@ -1,5 +1,12 @@
 pub mod Values
 pub mod Digits
+pub mod Names
 pub mod Words
 pub mod Tables
+pub mod Adding
 pub mod Bodies
+pub mod Ends
+pub mod Lines
+pub mod LineEnds
+pub mod Taken
+pub mod Reasons

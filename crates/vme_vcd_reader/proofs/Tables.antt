@@ -88,17 +88,6 @@ last_some (r ∷ rows) (suc k) identifier row is =
     ap (λ has. r.identifier == identifier || has) (last_some rows k identifier row is)
     ∙ or_swap (r.identifier == identifier) (row.identifier == identifier) (has_variable (take k rows) identifier)
 
--- no variable before the lists are begun
-pub none_link : (rows : List Row) (heads : List ℕ) (at place : ℕ) → IsLinked rows heads → length heads ≤ at → at < 2048
-    → IsLink rows 0 (length rows) place
-none_link rows heads at place linked past within =
-    let none : length rows ≡ 0 = linked.begun (omega arith) in
-    record {
-      within = omega arith;
-      there = λ n row some is. absurd (omega arith);
-      last = λ n row from to is. absurd (omega arith);
-    }
-
 -- the walk begins at the head of the list
 pub walk_begins : (rows : List Row) (identifier link : ℕ) (bits : Bits) (bus : BusLines) → IsLink rows link (length rows) (place_of identifier)
     → IsWalked rows identifier bits bus bus link false

@@ -73,7 +73,7 @@ last_of r (Some time) = Sample (shown_at r time) End
 -- the end of a text after its last word, which has to be the whole of a change, or within a comment
 abbrev pub ends_with : Option (Reading × Option Shown) → Samples
 ends_with None = Broken
-ends_with (Some taken) = before taken.1 (if may_end taken.0.awaited then last_of taken.0 taken.0.time else Broken)
+ends_with (Some taken) = if may_end taken.0.awaited then before taken.1 (last_of taken.0 taken.0.time) else Broken
 
 -- the samples of the text that is left: a blank ends its last word
 abbrev pub samples_by : List Row → Option (Reading × Option Shown) → List ℕ → Samples

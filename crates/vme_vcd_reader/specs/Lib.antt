@@ -4,6 +4,10 @@ pub mod Words
 pub mod Places
 pub mod Changes
 pub mod Buses
+pub mod Ports
 pub mod Tables
 pub mod Bodies
+pub mod Openings
+pub mod Lines
+pub mod Faults
 pub mod Readers

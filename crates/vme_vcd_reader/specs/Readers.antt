@@ -1,12 +1,15 @@
--- How a reader remembers a body.
-use Rattle.std.specs.Prelude.{◌≡◌, ℕ, Bool, true, if◌then◌else◌, List, ◌∷◌, Option, Some, None}
+-- How a reader remembers a dump.
+use Rattle.std.specs.Prelude.{◌≡◌, ℕ, Bool, true, false, if◌then◌else◌, List, [], ◌∷◌, ◌++◌, ◌<◌, length, Option, Some, None}
 use Rattle.vme_vcd_reader.specs.declared.reader.Step.{Step}
 use Rattle.vme_vcd_reader.specs.declared.reader.Step.TheVariants as steps
 use Rattle.vme_vcd_reader.specs.declared.reader.VcdReader.{VcdReader}
 use Rattle.vme_vcd_reader.specs.declared.table.Row.{Row}
 use Rattle.vme_vcd_reader.specs.Bodies.{Reading, Shown, Samples, Sample, End, Broken, samples_of}
+use Rattle.vme_vcd_reader.specs.Lines.{bytes_taken, list_of}
+use Rattle.vme_vcd_reader.specs.Openings.{opening_of, resting}
 use Rattle.vme_vcd_reader.specs.Places.{IsAt}
 use Rattle.vme_vcd_reader.specs.Tables.{IsLinked}
+use Rattle.vme_vcd_reader.specs.Words.{Statement}
 
 -- the variables that a reader has mapped
 abbrev pub rows_of : VcdReader → List Row
@@ -25,6 +28,22 @@ pub record IsReading (r : Reading) (v : VcdReader) : Type 0 where
   pub time : r.time ≡ time_of v
   pub changed : r.changed ≡ v.is_changed
 
+-- a reader has read part of the header at most: nothing of a body, and no variable is mapped
+pub record IsBefore (v : VcdReader) : Type 0 where
+  pub entered : v.is_body ≡ false
+  pub body : IsAt Statement [] v.body
+  pub rows : v.table.rows.items ≡ []
+  pub heads : v.table.heads.items ≡ []
+  pub lines : v.bus ≡ resting
+  pub time : v.is_begun ≡ false
+  pub changed : v.is_changed ≡ true
+
+-- a reader goes on with the header, or has read it whole, and its body begins
+abbrev pub Enters : Step → VcdReader → Type 0
+Enters steps.More v = IsBefore v
+Enters steps.Header v = IsReading (opening_of v.presence.busy) v
+Enters steps.Sample v = ⊥
+
 -- a reader reports a sample, or none
 abbrev pub ReportsSample : Option Shown → Step → VcdReader → Type 0
 ReportsSample None step v = step ≡ steps.More
@@ -35,6 +54,18 @@ ReportsSample (Some shown) step v =
 abbrev pub TakesRead : Option (Reading × Option Shown) → Step → VcdReader → Type 0
 TakesRead None step v = ⊥
 TakesRead (Some taken) step v = IsReading taken.0 v × ReportsSample taken.1 step v
+
+-- a reader has taken a line at the start of a text, with the same result as if it had taken its bytes: after it stands the
+-- rest of the text
+pub record TakesLine (rows : List Row) (r : Reading) (text rest : List ℕ) (step : Step) (v : VcdReader) : Type 0 where
+  pub line : List ℕ
+  pub text_is : text ≡ line ++ rest
+  pub some : 0 < length line
+  pub after : Reading
+  pub shown : Option Shown
+  pub taken : bytes_taken rows r line ≡ Some (after, list_of shown)
+  pub reading : IsReading after v
+  pub reports : ReportsSample shown step v
 
 -- no body goes on with a byte, whatever follows
 abbrev pub IsBroken : List Row → Reading → ℕ → Type 0

@@ -1,7 +1,9 @@
 //! The body of a dump, byte by byte.
-ghost use Rattle.std.specs.Prelude.{◌≡◌, ◌==◌, ◌++◌, ◌∷◌, ℕ, List, [], codes, if◌then◌else◌, true, None, IfOk, OnOk, OnErr, IsTrue, ◌↔◌};
+ghost use Rattle.std.specs.Prelude.{◌≡◌, ◌==◌, ◌++◌, ◌∷◌, ℕ, List, [], codes, if◌then◌else◌, true, None, IfOk, IfErr, OnOk, OnErr, IsTrue, ◌↔◌};
 ghost use Rattle.vme_vcd_reader.specs.declared.bits.Level.{Level};
 ghost use Rattle.vme_vcd_reader.specs.declared.body.Place.TheVariants.{Gap, Comment};
+ghost use Rattle.vme_vcd_reader.specs.declared.fault.VcdFault.TheVariants.{BadTime, BadValue, UnknownWord};
+ghost use Rattle.vme_vcd_reader.specs.Faults.{word_fault};
 ghost use Rattle.vme_vcd_reader.specs.Levels.{IsValue, level_of, value_of};
 ghost use Rattle.vme_vcd_reader.specs.Names.{identifier_of};
 ghost use Rattle.vme_vcd_reader.specs.Places.{HasDigits, HasOpened, HasTime, IsAt, Takes, may_end};
@@ -95,6 +97,8 @@ impl Body {
             IfOk result (λ said. Takes (byte_says awaited word byte) said self.new) }
         ensures fault { (awaited : Awaited) → (word : List ℕ) → IsAt awaited word self.old →
             OnErr result (NoWord awaited word byte) }
+        ensures why { (awaited : Awaited) → (word : List ℕ) → IsAt awaited word self.old →
+            IfErr result (λ fault. fault ≡ word_fault awaited word) }
     {
         if is_blank(byte) {
             return self.end_word();
@@ -122,6 +126,7 @@ impl Body {
     fn begin(&mut self, byte: u8) -> Result<(), VcdFault>
         ensures begun { OnOk result (HasOpened byte [] self.new (opening byte)) }
         ensures fault { OnErr result (opening byte ≡ None) }
+        ensures why { IfErr result (λ fault. fault ≡ UnknownWord) }
     {
         self.number = 0;
         match byte {
@@ -158,6 +163,7 @@ impl Body {
     fn digit(&mut self, byte: u8) -> Result<(), VcdFault>
         ensures more { OnOk result ((digits : List ℕ) → HasDigits digits self.old → HasDigits (digits ++ byte ∷ []) self.new) }
         ensures fault { OnErr result (level_of byte ≡ None) }
+        ensures why { IfErr result (λ fault. fault ≡ BadValue) }
     {
         let Some(level) = level_of(byte) else {
             return Err(VcdFault::BadValue);
@@ -172,6 +178,7 @@ impl Body {
     fn time(&mut self, byte: u8) -> Result<(), VcdFault>
         ensures more { OnOk result ((digits : List ℕ) → HasTime digits self.old → HasTime (digits ++ byte ∷ []) self.new) }
         ensures fault { OnErr result (with_digit self.old.number byte ≡ None) }
+        ensures why { IfErr result (λ fault. fault ≡ BadTime) }
     {
         let Some(number) = with_digit(self.number, byte) else {
             return Err(VcdFault::BadTime);
@@ -188,6 +195,8 @@ impl Body {
             IfOk result (λ said. Takes (blank_says awaited word) said self.new) }
         ensures fault { (awaited : Awaited) → (word : List ℕ) → IsAt awaited word self.old →
             OnErr result (blank_says awaited word ≡ None) }
+        ensures why { (awaited : Awaited) → (word : List ℕ) → IsAt awaited word self.old →
+            IfErr result (λ fault. fault ≡ word_fault awaited word) }
     {
         match self.place {
             Place::Gap | Place::DigitsEnd | Place::ValueEnd => {}

@@ -2,6 +2,8 @@
 ghost use Rattle.std.specs.Prelude.{◌≡◌};
 ghost use Rattle.vme_vcd_reader.specs.Buses.{after_change, any_of, bus_after, defined_lane, defined_lanes, level_set, level_sets, port_after, port_changed, sample_lines, sample_of, showing, slot_after, with_slot};
 ghost use Rattle.vme_vcd_reader.specs.Changes.{level_after, undefined_after};
+ghost use Rattle.vme_vcd_reader.specs.Openings.{resting};
+ghost use Rattle.vme_vcd_reader.specs.Ports.{port_in};
 ghost use Rattle.vme_line_map.specs.declared.group.Group.TheVariants.{Modifier};
 
 use crate::bits::Bits;
@@ -62,6 +64,28 @@ const INTERRUPT_ACKNOWLEDGE: u32 = 32;
 
 const BUSY: u32 = 64;
 
+/// The lines before any change.
+const RESTING: Sample = Sample {
+    address_strobe: true,
+    ds1: true,
+    ds0: true,
+    dtack: true,
+    undefined: false,
+    berr: true,
+    iack: true,
+    busy: true,
+    drivers: 0,
+    requests: 0,
+    grants: 0,
+    am: 0,
+    am_undefined: true,
+    write: true,
+    write_undefined: true,
+    lines: 0,
+    lines_undefined: u64::MAX,
+    time: 0,
+};
+
 /// LWORD* among the lines of a sample, and the place of A00, which is not one of them.
 const LONG_WORD: u64 = 1 << 32;
 
@@ -105,7 +129,10 @@ fn any_of(sets: &[u32; 4]) -> u32
 
 impl BusLines {
     /// Returns lines at rest, with everything else undefined.
-    pub(crate) fn new() -> BusLines {
+    #[tactic(auto, unfolding(crate::specs::Openings::resting))]
+    pub(crate) fn new() -> BusLines
+        ensures { result ≡ resting }
+    {
         let port = Port {
             done: false,
             write: false,
@@ -115,7 +142,7 @@ impl BusLines {
             data: 0,
         };
         BusLines {
-            sample: Sample::rest(),
+            sample: RESTING,
             undefined: 0,
             idle_modifier: 63,
             undefined_drivers: 0,
@@ -163,7 +190,9 @@ impl BusLines {
     }
 
     /// Returns the lines of a slot's local port, if there is such a slot.
-    pub fn port(&self, slot: u8) -> Option<Port> {
+    pub fn port(&self, slot: u8) -> Option<Port>
+        ensures { result ≡ port_in self.now slot }
+    {
         let lines = self.ports.get(usize::from(slot).wrapping_sub(1))?;
         Some(lines.port)
     }

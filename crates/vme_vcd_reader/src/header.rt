@@ -1,4 +1,7 @@
 //! The header of a dump, word by word.
+ghost use Rattle.std.specs.Prelude.{◌≡◌, [], IfOk};
+ghost use Rattle.vme_vcd_reader.specs.Tables.{IsLinked};
+
 use crate::fault::VcdFault;
 use crate::identifier::{NO_IDENTIFIER, identifier_of};
 use crate::matching::Matching;
@@ -90,7 +93,10 @@ impl Header {
     }
 
     /// Returns which lines the dump has, with the variables that are mapped.
-    pub(crate) fn end(&self, map: &LineMap, table: &mut Table) -> Result<Presence, VcdFault> {
+    pub(crate) fn end(&self, map: &LineMap, table: &mut Table) -> Result<Presence, VcdFault>
+        ensures { table.old.rows.items ≡ [] → table.old.heads.items ≡ [] →
+            IfOk result (λ _. IsLinked table.new.rows.items table.new.heads.items) }
+    {
         self.matching.end(map, table)
     }
 

@@ -1,6 +1,6 @@
 //! The identifiers of variables, as numbers.
-ghost use Rattle.std.specs.Prelude.{◌≡◌};
-ghost use Rattle.vme_vcd_reader.specs.Names.{with_character, identifier_of};
+ghost use Rattle.std.specs.Prelude.{◌≡◌, ◌≢◌, ℕ, List};
+ghost use Rattle.vme_vcd_reader.specs.Names.{with_character, identifier_of, no_identifier};
 
 /// No identifier: that of all with more than nine characters.
 pub(crate) const NO_IDENTIFIER: u64 = u64::MAX;
@@ -21,7 +21,8 @@ pub(crate) fn with_character(identifier: u64, byte: u8) -> u64
 
 /// Returns the identifier that a word is.
 pub(crate) fn identifier_of(word: &[u8]) -> u64
-    ensures { result ≡ identifier_of word.now }
+    ensures number { result ≡ identifier_of word.now }
+    ensures alone { (other : List ℕ) → result ≢ no_identifier → identifier_of other ≡ result → other ≡ word.now }
 {
     let mut identifier = 0;
     for byte in word {

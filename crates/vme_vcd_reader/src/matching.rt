@@ -1,4 +1,7 @@
 //! Which variables of the header are those that the map wants.
+ghost use Rattle.std.specs.Prelude.{◌≡◌, [], IfOk};
+ghost use Rattle.vme_vcd_reader.specs.Tables.{IsLinked};
+
 use crate::fault::VcdFault;
 use crate::presence::Presence;
 use crate::table::{MOST_MAPPED, Table};
@@ -152,7 +155,10 @@ impl Matching {
     }
 
     /// Fills the table with what was found, and returns which lines the dump has.
-    pub(crate) fn end(&self, map: &LineMap, table: &mut Table) -> Result<Presence, VcdFault> {
+    pub(crate) fn end(&self, map: &LineMap, table: &mut Table) -> Result<Presence, VcdFault>
+        ensures { table.old.rows.items ≡ [] → table.old.heads.items ≡ [] →
+            IfOk result (λ _. IsLinked table.new.rows.items table.new.heads.items) }
+    {
         table.begin()?;
         let own_a01 = self.has_own_a01(map);
         let mut presence = Presence::NONE;

@@ -1,11 +1,17 @@
 //! A dump as the levels of lines at its times.
-ghost use Rattle.std.specs.Prelude.{◌≡◌, ◌||◌, List, false, None, IfOk, OnErr};
+ghost use Rattle.std.specs.Prelude.{◌≡◌, ◌||◌, List, [], true, false, None, IfOk, IfErr, IfSome, OnErr};
 ghost use Rattle.vme_vcd_reader.specs.declared.bits.Level.{Level};
-ghost use Rattle.vme_vcd_reader.specs.Bodies.{Reading, byte_taken, time_taken};
+ghost use Rattle.vme_vcd_reader.specs.declared.body.Place.TheVariants.{Gap};
+ghost use Rattle.vme_vcd_reader.specs.Bodies.{Reading, Broken, End, byte_taken, samples_of, time_taken};
+ghost use Rattle.vme_vcd_reader.specs.declared.fault.VcdFault.TheVariants.{TimeFalls};
+ghost use Rattle.vme_vcd_reader.specs.Faults.{byte_fault, end_fault};
 ghost use Rattle.vme_vcd_reader.specs.Levels.{IsValue, value_of};
-ghost use Rattle.vme_vcd_reader.specs.Readers.{IsBroken, IsReading, ReportsLast, TakesRead, rows_of, samples_left};
+ghost use Rattle.vme_vcd_reader.specs.Lines.{bytes_taken};
+ghost use Rattle.vme_vcd_reader.specs.Readers.{Enters, IsBefore, IsBroken, IsReading, ReportsLast, TakesLine, TakesRead, rows_of, samples_left};
 ghost use Rattle.vme_vcd_reader.specs.Tables.{IsLinked, has_variable, variables_after};
+ghost use Rattle.vme_vcd_reader.specs.Words.{is_blank};
 
+use crate::bits::Bits;
 use crate::body::{Body, Said};
 use crate::bus::BusLines;
 use crate::fault::VcdFault;
@@ -57,7 +63,9 @@ impl<'a> VcdReader<'a> {
     /// # Errors
     ///
     /// An allocation failed.
-    pub fn new(alloc: Global, map: &'a LineMap) -> Result<VcdReader<'a>, VcdFault> {
+    pub fn new(alloc: Global, map: &'a LineMap) -> Result<VcdReader<'a>, VcdFault>
+        ensures { IfOk result IsBefore }
+    {
         let mut header = Header::new(alloc);
         header.begin(map)?;
         Ok(VcdReader {
@@ -116,9 +124,11 @@ impl<'a> VcdReader<'a> {
     /// Why the text is no dump; `line` is then the number of its line.
     #[inline]
     pub fn push(&mut self, byte: u8) -> Result<Step, VcdFault>
+        ensures header { IsBefore self.old → IfOk result (λ step. Enters step self.new) }
         ensures says { (r : Reading) → IsReading r self.old →
             IfOk result (λ step. TakesRead (byte_taken (rows_of self.old) r byte) step self.new) }
         ensures fault { (r : Reading) → IsReading r self.old → OnErr result (IsBroken (rows_of self.old) r byte) }
+        ensures why { (r : Reading) → IsReading r self.old → IfErr result (λ fault. fault ≡ byte_fault r byte) }
         ensures rows { (r : Reading) → IsReading r self.old → rows_of self.new ≡ rows_of self.old }
     {
         let step = if self.is_body {
@@ -140,20 +150,39 @@ impl<'a> VcdReader<'a> {
     ///
     /// The time falls.
     #[inline]
-    pub fn push_line<'b>(&mut self, text: &'b [u8]) -> Result<Option<(Step, &'b [u8])>, VcdFault> {
-        if !self.is_body || !self.body.is_between() {
+    pub fn push_line<'b>(&mut self, text: &'b [u8]) -> Result<Option<(Step, &'b [u8])>, VcdFault>
+        ensures none { IfOk result (λ taken. taken ≡ None → self.new ≡ self.old) }
+        ensures says { (r : Reading) → IsReading r self.old →
+            IfOk result (λ taken. IfSome taken (λ taken. TakesLine (rows_of self.old) r text.now taken.1.now taken.0 self.new)) }
+        ensures fault { (r : Reading) → IsReading r self.old → OnErr result (bytes_taken (rows_of self.old) r text.now ≡ None) }
+        ensures why { IfErr result (λ fault. fault ≡ TimeFalls) }
+        ensures table { self.new.table ≡ self.old.table }
+    {
+        if !self.is_body {
+            return Ok(None);
+        }
+        if !self.body.is_between() {
             return Ok(None);
         }
         if let Some(quick) = quick_change(text) {
-            if self
-                .table
-                .change(quick.identifier, &quick.bits, &mut self.bus)
-            {
-                self.is_changed = true;
-            }
+            self.change_to(quick.identifier, &quick.bits);
             self.line = self.line.wrapping_add(1);
             return Ok(Some((Step::More, quick.rest)));
         }
+        self.push_time(text)
+    }
+
+    /// Takes the time that stands whole on a line at the start of a text, if there is one.
+    #[inline]
+    fn push_time<'b>(&mut self, text: &'b [u8]) -> Result<Option<(Step, &'b [u8])>, VcdFault>
+        ensures none { IfOk result (λ taken. taken ≡ None → self.new ≡ self.old) }
+        ensures says { (r : Reading) → IsReading r self.old → self.old.body.place ≡ Gap →
+            IfOk result (λ taken. IfSome taken (λ taken. TakesLine (rows_of self.old) r text.now taken.1.now taken.0 self.new)) }
+        ensures fault { (r : Reading) → IsReading r self.old → self.old.body.place ≡ Gap →
+            OnErr result (bytes_taken (rows_of self.old) r text.now ≡ None) }
+        ensures why { IfErr result (λ fault. fault ≡ TimeFalls) }
+        ensures table { self.new.table ≡ self.old.table }
+    {
         let Some(quick) = quick_time(text) else {
             return Ok(None);
         };
@@ -167,15 +196,35 @@ impl<'a> VcdReader<'a> {
     /// # Errors
     ///
     /// Why the text is no dump.
-    pub fn end(&mut self) -> Result<Step, VcdFault> {
-        if !self.is_body && self.push_header(b' ')? == Step::More {
-            return Err(VcdFault::EndsInHeader);
+    pub fn end(&mut self) -> Result<Step, VcdFault>
+        ensures header { IsBefore self.old → IfOk result (λ step. ReportsLast End step self.new) }
+        ensures says { (r : Reading) → IsReading r self.old →
+            IfOk result (λ step. ReportsLast (samples_of (rows_of self.old) r []) step self.new) }
+        ensures fault { (r : Reading) → IsReading r self.old → OnErr result (samples_of (rows_of self.old) r [] ≡ Broken) }
+        ensures why { (r : Reading) → IsReading r self.old → IfErr result (λ fault. fault ≡ end_fault (rows_of self.old) r) }
+    {
+        if self.is_body {
+            return self.end_body();
         }
-        if self.push_body(b' ')? == Step::Sample {
-            return Ok(Step::Sample);
+        match self.push_header(b' ')? {
+            Step::Header => self.end_body(),
+            Step::More | Step::Sample => Err(VcdFault::EndsInHeader),
         }
+    }
+
+    /// Ends the text of a body. A blank ends its last word.
+    fn end_body(&mut self) -> Result<Step, VcdFault>
+        ensures says { (r : Reading) → IsReading r self.old →
+            IfOk result (λ step. ReportsLast (samples_of (rows_of self.old) r []) step self.new) }
+        ensures fault { (r : Reading) → IsReading r self.old → OnErr result (samples_of (rows_of self.old) r [] ≡ Broken) }
+        ensures why { (r : Reading) → IsReading r self.old → IfErr result (λ fault. fault ≡ end_fault (rows_of self.old) r) }
+    {
+        let step = self.push_body(b' ')?;
         if !self.body.may_end() {
             return Err(VcdFault::EndsInChange);
+        }
+        if step == Step::Sample {
+            return Ok(Step::Sample);
         }
         Ok(self.last_sample())
     }
@@ -193,7 +242,9 @@ impl<'a> VcdReader<'a> {
     }
 
     /// Takes a byte of the header.
-    fn push_header(&mut self, byte: u8) -> Result<Step, VcdFault> {
+    fn push_header(&mut self, byte: u8) -> Result<Step, VcdFault>
+        ensures { IsBefore self.old → IfOk result (λ step. Enters step self.new) }
+    {
         match self.header.push(self.map, byte)? {
             Progress::More => Ok(Step::More),
             Progress::Ended => {
@@ -211,6 +262,9 @@ impl<'a> VcdReader<'a> {
         ensures says { (r : Reading) → IsReading r self.old →
             IfOk result (λ step. TakesRead (byte_taken (rows_of self.old) r byte) step self.new) }
         ensures fault { (r : Reading) → IsReading r self.old → OnErr result (IsBroken (rows_of self.old) r byte) }
+        ensures why { (r : Reading) → IsReading r self.old → IfErr result (λ fault. fault ≡ byte_fault r byte) }
+        ensures blank { (r : Reading) → IsReading r self.old → is_blank byte ≡ true →
+            OnErr result (byte_taken (rows_of self.old) r byte ≡ None) }
         ensures table { self.new.table ≡ self.old.table }
     {
         match self.body.push(byte)? {
@@ -235,7 +289,20 @@ impl<'a> VcdReader<'a> {
         ensures table { self.new.table ≡ self.old.table }
     {
         let bits = self.body.bits();
-        if self.table.change(identifier, &bits, &mut self.bus) {
+        self.change_to(identifier, &bits);
+    }
+
+    /// Takes the change of the variables with an identifier to some bits.
+    #[inline]
+    fn change_to(&mut self, identifier: u64, bits: &Bits)
+        ensures lines { IsLinked self.old.table.rows.items self.old.table.heads.items →
+            self.new ≡ record self.old {
+              bus = variables_after (rows_of self.old) identifier bits.now self.old.bus;
+              is_changed = self.old.is_changed || has_variable (rows_of self.old) identifier;
+            } }
+        ensures table { self.new.table ≡ self.old.table }
+    {
+        if self.table.change(identifier, bits, &mut self.bus) {
             self.is_changed = true;
         }
     }
@@ -245,6 +312,7 @@ impl<'a> VcdReader<'a> {
         ensures says { (r : Reading) → IsReading r self.old →
             IfOk result (λ step. TakesRead (time_taken r r.time time) step self.new) }
         ensures fault { (r : Reading) → IsReading r self.old → OnErr result (time_taken r r.time time ≡ None) }
+        ensures why { IfErr result (λ fault. fault ≡ TimeFalls) }
         ensures table { self.new.table ≡ self.old.table }
     {
         if !self.is_begun {

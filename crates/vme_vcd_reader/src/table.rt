@@ -1,6 +1,6 @@
 //! The variables that are mapped, by their identifiers.
-ghost use Rattle.std.specs.Prelude.{◌≡◌, ◌≤◌, ◌<◌, length, slice_index};
-ghost use Rattle.vme_vcd_reader.specs.Tables.{IsLinked, IsLink, has_variable, place_of, variables_after};
+ghost use Rattle.std.specs.Prelude.{◌≡◌, ◌≤◌, ◌<◌, [], ◌∷◌, ◌++◌, length, nat_lt, IfOk, IsTrue, IsFalse};
+ghost use Rattle.vme_vcd_reader.specs.Tables.{IsLinked, IsLink, has_variable, place_of, variables_after, variables_of};
 
 use crate::bits::Bits;
 use crate::bus::BusLines;
@@ -41,7 +41,10 @@ fn place_of(identifier: u64) -> usize
 
 impl Table {
     /// Returns the empty table.
-    pub(crate) fn new(alloc: Global) -> Table {
+    pub(crate) fn new(alloc: Global) -> Table
+        ensures rows { result.rows.items ≡ [] }
+        ensures heads { result.heads.items ≡ [] }
+    {
         Table {
             rows: Vec::new(alloc),
             heads: Vec::new(alloc),
@@ -49,15 +52,25 @@ impl Table {
     }
 
     /// Allocates the lists.
-    pub(crate) fn begin(&mut self) -> Result<(), AllocError> {
-        for _ in 0..PLACES {
+    pub(crate) fn begin(&mut self) -> Result<(), AllocError>
+        ensures { self.old.rows.items ≡ [] → self.old.heads.items ≡ [] →
+            IfOk result (λ _. IsLinked self.new.rows.items self.new.heads.items) }
+    {
+        for _place in 0..PLACES {
             self.heads.push(0)?;
         }
         Ok(())
     }
 
     /// Adds a variable, unless the table is full.
-    pub(crate) fn add(&mut self, identifier: u64, mapped: Mapped) -> Result<bool, AllocError> {
+    pub(crate) fn add(&mut self, identifier: u64, mapped: Mapped) -> Result<bool, AllocError>
+        ensures linked { IfOk result (λ _. IsLinked self.old.rows.items self.old.heads.items →
+            IsLinked self.new.rows.items self.new.heads.items) }
+        ensures added { IfOk result (λ added. IsTrue added →
+            variables_of self.new.rows.items ≡ variables_of self.old.rows.items ++ (identifier, mapped) ∷ []) }
+        ensures full { IfOk result (λ added. IsLinked self.old.rows.items self.old.heads.items →
+            added ≡ nat_lt (length self.old.rows.items) 1000) }
+    {
         if MOST_MAPPED <= self.rows.len() {
             return Ok(false);
         }

@@ -2,7 +2,7 @@ use Rattle.std.proofs.Common.{subst}
 use Rattle.vme_vcd_reader.specs.Places.{Takes}
 use Rattle.vme_vcd_reader.specs.Readers.{rows_of}
 use Rattle.vme_vcd_reader.specs.Words.{byte_says}
-use Rattle.vme_vcd_reader.proofs.Bodies.{broken_word, takes_time, time_fault}
+use Rattle.vme_vcd_reader.proofs.Bodies.{broken_word, fault_by, takes_time, time_fault}
 use Rattle.vme_vcd_reader.proofs.Words.{on_err}
 use Rattle.vme_vcd_reader.proofs.reader.VcdReader.push_body.Goals as goal
 
@@ -20,5 +20,11 @@ returns-in-Time-clause-says c = λ r is.
 pub returns-in-Time-clause-fault : goal.returns-in-Time-clause-fault
 returns-in-Time-clause-fault c = λ r is.
     time_fault (rows_of c.args.self.now) r c.args.byte c.in-Time.time c.push.new.self c.args.self.now c.at_time.result
+    (subst (λ it. Takes (byte_says r.awaited r.word c.args.byte) it c.push.new.self) c.in-Time.is (c.in_ok-push.ensures.says r.awaited r.word is.body))
+    is c.at_time.ensures.fault
+
+pub returns-in-Time-clause-blank : goal.returns-in-Time-clause-blank
+returns-in-Time-clause-blank c = λ r is blank.
+    fault_by (rows_of c.args.self.now) r (byte_says r.awaited r.word c.args.byte) c.in-Time.time c.push.new.self c.args.self.now c.at_time.result
     (subst (λ it. Takes (byte_says r.awaited r.word c.args.byte) it c.push.new.self) c.in-Time.is (c.in_ok-push.ensures.says r.awaited r.word is.body))
     is c.at_time.ensures.fault

@@ -1,0 +1,99 @@
+-- The end of a body.
+use Rattle.std.proofs.Common.{◌≡◌, ◌≢◌, ℕ, Bool, true, false, ◌==◌, List, [], ◌∷◌, Option, Some, None, refl, ap, sym, subst, ◌∙◌, nat_lt}
+use Rattle.std.specs.Prelude.{if◌then◌else◌}
+use Rattle.vme_vcd_reader.specs.declared.bus.BusLines.{BusLines}
+use Rattle.vme_vcd_reader.specs.declared.reader.Step.{Step}
+use Rattle.vme_vcd_reader.specs.declared.reader.Step.TheVariants as steps
+use Rattle.vme_vcd_reader.specs.declared.reader.VcdReader.{VcdReader}
+use Rattle.vme_vcd_reader.specs.declared.table.Row.{Row}
+use Rattle.vme_vcd_reader.specs.Bodies.{Reading, Shown, Sample, End, Broken, at_word, before, byte_taken, ends_with, fact_taken, last_of, shown_at, time_taken}
+use Rattle.vme_vcd_reader.specs.Places.{IsAt, may_end}
+use Rattle.vme_vcd_reader.specs.Readers.{IsReading, ReportsLast, TakesRead, samples_left}
+use Rattle.vme_vcd_reader.specs.Words.{Awaited, Fact, Silence, At, Change, blank_says, word_says}
+use Rattle.vme_vcd_reader.proofs.Bodies.{ended, says_taken}
+
+-- no word is begun after a blank
+abbrev pub IsClear : Option (Reading × Option Shown) → Type 0
+IsClear None = Unit {0}
+IsClear (Some taken) = taken.0.word ≡ []
+
+time_clear : (r : Reading) (last : Option ℕ) (time : ℕ) → r.word ≡ [] → IsClear (time_taken r last time)
+time_clear r None time clear = clear
+time_clear r (Some last) time clear =
+    elim (nat_lt time last) as (λ less. IsClear (if less then None else
+    (if time == last then Some (r, None) else Some (record r { time = Some time; changed = false }, Some (shown_at r last))))) [
+      | true ↦ tt
+      | false ↦ elim (time == last) as (λ same. IsClear
+          (if same then Some (r, None) else Some (record r { time = Some time; changed = false }, Some (shown_at r last)))) [ true ↦ clear | false ↦ clear ]
+    ]
+
+fact_clear : (rows : List Row) (r : Reading) (fact : Fact) → r.word ≡ [] → IsClear (fact_taken rows r fact)
+fact_clear rows r Silence clear = clear
+fact_clear rows r (At time) clear = time_clear r r.time time clear
+fact_clear rows r (Change identifier levels) clear = clear
+
+pub blank_clear : (rows : List Row) (r : Reading) (awaited : Awaited) (word : List ℕ) → IsClear (says_taken rows r (blank_says awaited word))
+blank_clear rows r awaited [] = refl
+blank_clear rows r awaited (c ∷ cs) =
+    elim (word_says awaited (c ∷ cs)) as (λ o. IsClear (says_taken rows r (ended o))) [
+      | None ↦ tt
+      | Some says ↦ fact_clear rows (at_word r (says.0, [])) says.1 refl
+    ]
+
+-- the last sample is what a reader has left
+left_by : (v : VcdReader) (lines : BusLines) (changed begun : Bool) → v.bus ≡ lines → changed ≡ v.is_changed
+    → (if begun then Sample (record { time = v.time; lines = lines; changed = changed }) End else End)
+    ≡ (if begun then Sample (record { time = v.time; lines = v.bus; changed = v.is_changed }) End else End)
+left_by v lines changed begun at is =
+    ap (λ lines. if begun then Sample (record { time = v.time; lines = lines; changed = changed }) End else End) (sym at)
+    ∙ ap (λ changed. if begun then Sample (record { time = v.time; lines = v.bus; changed = changed }) End else End) is
+
+last_by : (r : Reading) (begun : Bool) (time : ℕ)
+    → last_of r (if begun then Some time else None) ≡ (if begun then Sample (shown_at r time) End else End)
+last_by r true time = refl
+last_by r false time = refl
+
+last_left : (r : Reading) (v : VcdReader) → IsReading r v → last_of r r.time ≡ samples_left v
+last_left r v is = ap (last_of r) is.time ∙ last_by r v.is_begun v.time ∙ left_by v r.lines r.changed v.is_begun is.lines is.changed
+
+-- whether a body may end after a blank
+whole_by : (r : Reading) (v : VcdReader) (whole : Bool) → r.word ≡ [] → IsReading r v
+    → ((awaited : Awaited) → IsAt awaited [] v.body → whole ≡ may_end awaited) → may_end r.awaited ≡ whole
+whole_by r v whole clear is says = sym (says r.awaited (subst (λ word. IsAt r.awaited word v.body) clear is.body))
+
+-- the last word completes a sample, and leaves another one
+sample_by : (r : Reading) (shown : Option Shown) (v : VcdReader) → may_end r.awaited ≡ true → TakesRead (Some (r, shown)) steps.Sample v
+    → ReportsLast (ends_with (Some (r, shown))) steps.Sample v
+sample_by r None v whole takes = absurd (cc (takes.1))
+sample_by r (Some shown) v whole takes =
+    subst (λ test. ReportsLast (if test then before (Some shown) (last_of r r.time) else Broken) steps.Sample v) (sym whole)
+    (takes.1, sym (last_left r v takes.0))
+
+pub sample_ends : (o : Option (Reading × Option Shown)) (v : VcdReader) (whole : Bool) → IsClear o → TakesRead o steps.Sample v
+    → ((awaited : Awaited) → IsAt awaited [] v.body → whole ≡ may_end awaited) → whole ≡ true → ReportsLast (ends_with o) steps.Sample v
+sample_ends None v whole clear takes says is = absurd takes
+sample_ends (Some taken) v whole clear takes says is =
+    sample_by taken.0 taken.1 v (whole_by taken.0 v whole clear takes.0 says ∙ is) takes
+
+-- it completes none, and leaves one at most
+none_by : (r : Reading) (shown : Option Shown) (step last : Step) (v w : VcdReader) → may_end r.awaited ≡ true → TakesRead (Some (r, shown)) step v
+    → step ≢ steps.Sample → ReportsLast (samples_left v) last w → ReportsLast (ends_with (Some (r, shown))) last w
+none_by r None step last v w whole takes other left =
+    subst (λ test. ReportsLast (if test then last_of r r.time else Broken) last w) (sym whole)
+    (subst (λ samples. ReportsLast samples last w) (sym (last_left r v takes.0)) left)
+none_by r (Some shown) step last v w whole takes other left = absurd (other (takes.1.0))
+
+pub none_ends : (o : Option (Reading × Option Shown)) (step last : Step) (v w : VcdReader) (whole : Bool) → IsClear o → TakesRead o step v
+    → ((awaited : Awaited) → IsAt awaited [] v.body → whole ≡ may_end awaited) → whole ≡ true → step ≢ steps.Sample
+    → ReportsLast (samples_left v) last w → ReportsLast (ends_with o) last w
+none_ends None step last v w whole clear takes says is other left = absurd takes
+none_ends (Some taken) step last v w whole clear takes says is other left =
+    none_by taken.0 taken.1 step last v w (whole_by taken.0 v whole clear takes.0 says ∙ is) takes other left
+
+-- the text ends in a change
+pub change_ends : (o : Option (Reading × Option Shown)) (step : Step) (v : VcdReader) (whole : Bool) → IsClear o → TakesRead o step v
+    → ((awaited : Awaited) → IsAt awaited [] v.body → whole ≡ may_end awaited) → whole ≡ false → ends_with o ≡ Broken
+change_ends None step v whole clear takes says is = absurd takes
+change_ends (Some taken) step v whole clear takes says is =
+    ap (λ test. if test then before taken.1 (last_of taken.0 taken.0.time) else Broken)
+    (whole_by taken.0 v whole clear takes.0 says ∙ is)

@@ -1,0 +1,130 @@
+-- A reader takes a line at once as it takes its bytes.
+use Rattle.std.proofs.Common.{◌≡◌, ℕ, Bool, true, false, ◌||◌, List, [], ◌∷◌, ◌++◌, Option, Some, None, Result, Ok, Err, OnErr, refl, ap, sym, subst, ◌∙◌}
+use Rattle.std.specs.Option.{option_map, option_and_then}
+use Rattle.vme_vcd_reader.specs.declared.bits.Bits.{Bits}
+use Rattle.vme_vcd_reader.specs.declared.body.Body.{Body}
+use Rattle.vme_vcd_reader.specs.declared.body.Place.TheVariants as places
+use Rattle.vme_vcd_reader.specs.declared.reader.Step.{Step}
+use Rattle.vme_vcd_reader.specs.declared.reader.Step.TheVariants as steps
+use Rattle.vme_vcd_reader.specs.declared.reader.VcdReader.{VcdReader}
+use Rattle.vme_vcd_reader.specs.declared.table.Row.{Row}
+use Rattle.vme_vcd_reader.specs.Bodies.{Reading, Shown, byte_taken, time_taken}
+use Rattle.vme_vcd_reader.specs.Lines.{IsChangeLine, IsTimeLine, between, bytes_taken, list_of, shown_first}
+use Rattle.vme_vcd_reader.specs.Places.{HasOpened, IsAt}
+use Rattle.vme_vcd_reader.specs.Readers.{IsReading, ReportsSample, TakesLine, TakesRead, rows_of}
+use Rattle.vme_vcd_reader.specs.Tables.{has_variable, variables_after}
+use Rattle.vme_vcd_reader.specs.Words.{Awaited, Statement, Variable, Unread, Remark, Opening, Number, Vector, Skipped, Keyword, Scalar, opening}
+use Rattle.vme_vcd_reader.proofs.Bodies.{reading}
+
+-- between two words a body awaits a statement
+opened_no_gap : (o : Option Opening) (c : ℕ) (cs : List ℕ) (s : Body) → HasOpened c cs s o → s.place ≡ places.Gap → ⊥
+opened_no_gap None c cs s has place = has
+opened_no_gap (Some Number) c cs s has place = cc (has.place)
+opened_no_gap (Some Vector) c cs s has place = cc (has.place)
+opened_no_gap (Some Skipped) c cs s has place = cc
+opened_no_gap (Some Keyword) c cs s has place = cc (has.0)
+opened_no_gap (Some (Scalar level)) c cs s has place = cc (has.place)
+
+at_gap : (awaited : Awaited) (word : List ℕ) (s : Body) → IsAt awaited word s → s.place ≡ places.Gap → (awaited ≡ Statement) × (word ≡ [])
+at_gap Statement [] s at place = (refl, refl)
+at_gap Statement (c ∷ cs) s at place = absurd (opened_no_gap (opening c) c cs s at place)
+at_gap (Variable levels) [] s at place = absurd (cc (at.0))
+at_gap (Variable levels) (c ∷ cs) s at place = absurd (cc (at.place))
+at_gap Unread [] s at place = absurd (cc)
+at_gap Unread (c ∷ cs) s at place = absurd (cc)
+at_gap Remark word s at place = absurd (cc (at.0))
+
+is_between : (r : Reading) (v : VcdReader) → IsReading r v → v.body.place ≡ places.Gap → r ≡ between r.lines r.time r.changed
+is_between r v is place =
+    let at : (r.awaited ≡ Statement) × (r.word ≡ []) = at_gap r.awaited r.word v.body is.body place in
+    ap (λ awaited. reading awaited r.word r.lines r.time r.changed) at.0 ∙ ap (λ word. reading Statement word r.lines r.time r.changed) at.1
+
+-- a change
+pub line_changes : (r : Reading) (v u : VcdReader) (text rest : List ℕ) (identifier : ℕ) (bits : Bits) (n : ℕ) → IsReading r v
+    → v.body.place ≡ places.Gap → IsChangeLine text rest identifier bits
+    → u ≡ record v {
+      bus = variables_after (rows_of v) identifier bits v.bus;
+      is_changed = v.is_changed || has_variable (rows_of v) identifier;
+    }
+    → TakesLine (rows_of v) r text rest steps.More (record u { line = n })
+line_changes r v u text rest identifier bits n is place change at =
+    subst (λ (u : VcdReader). TakesLine (rows_of v) r text rest steps.More (record u { line = n })) (sym at) (record {
+      line = change.line;
+      text_is = change.text_is;
+      some = change.some;
+      after = between (variables_after (rows_of v) identifier bits r.lines) r.time (r.changed || has_variable (rows_of v) identifier);
+      shown = None;
+      taken = ap (λ r. bytes_taken (rows_of v) r change.line) (is_between r v is place) ∙ change.says (rows_of v) r.lines r.time r.changed;
+      reading = record {
+        entered = is.entered;
+        body = place;
+        table = is.table;
+        lines = ap (variables_after (rows_of v) identifier bits) is.lines;
+        time = is.time;
+        changed = ap (λ changed. changed || has_variable (rows_of v) identifier) is.changed;
+      };
+      reports = refl;
+    })
+
+-- a time
+report_line : (shown : Option Shown) (step : Step) (u : VcdReader) (n : ℕ) → ReportsSample shown step u → ReportsSample shown step (record u { line = n })
+report_line None step u n is = is
+report_line (Some shown) step u n is = is
+
+abbrev listed : Option (Reading × Option Shown) → Option (Reading × List Shown)
+listed o = option_map (λ taken. (taken.0, list_of taken.1)) o
+
+times_by : (rows : List Row) (r : Reading) (u : VcdReader) (text rest : List ℕ) (time : ℕ) (step : Step) (n : ℕ) (o : Option (Reading × Option Shown))
+    (line : IsTimeLine text rest time) → bytes_taken rows r line.line ≡ listed o → TakesRead o step u → TakesLine rows r text rest step (record u { line = n })
+times_by rows r u text rest time step n None line is takes = absurd takes
+times_by rows r u text rest time step n (Some taken) line is takes = record {
+  line = line.line;
+  text_is = line.text_is;
+  some = line.some;
+  after = taken.0;
+  shown = taken.1;
+  taken = is;
+  reading = record {
+    entered = takes.0.entered;
+    body = takes.0.body;
+    table = takes.0.table;
+    lines = takes.0.lines;
+    time = takes.0.time;
+    changed = takes.0.changed;
+  };
+  reports = report_line taken.1 step u n takes.1;
+}
+
+line_says : (rows : List Row) (r : Reading) (v : VcdReader) (text rest : List ℕ) (time : ℕ) → IsReading r v → v.body.place ≡ places.Gap
+    → (line : IsTimeLine text rest time) → bytes_taken rows r line.line ≡ listed (time_taken r r.time time)
+line_says rows r v text rest time is place line =
+    let same : r ≡ between r.lines r.time r.changed = is_between r v is place in
+    ap (λ r. bytes_taken rows r line.line) same ∙ line.says rows r.lines r.time r.changed
+    ∙ ap (λ (q : Reading). listed (time_taken q r.time time)) (sym same)
+
+pub line_times : (r : Reading) (v u : VcdReader) (text rest : List ℕ) (time : ℕ) (step : Step) (n : ℕ) → IsReading r v → v.body.place ≡ places.Gap
+    → IsTimeLine text rest time → TakesRead (time_taken r r.time time) step u → TakesLine (rows_of v) r text rest step (record u { line = n })
+line_times r v u text rest time step n is place line takes =
+    times_by (rows_of v) r u text rest time step n (time_taken r r.time time) line (line_says (rows_of v) r v text rest time is place line) takes
+
+-- a time that falls
+none_map : (shown : Option Shown) (o : Option (Reading × List Shown)) → option_map (shown_first shown) o ≡ None → o ≡ None
+none_map shown None is = refl
+none_map shown (Some more) is = absurd (cc)
+
+none_more : (rows : List Row) (r : Reading) (line rest : List ℕ) → bytes_taken rows r line ≡ None → bytes_taken rows r (line ++ rest) ≡ None
+none_more rows r [] rest is = absurd (cc)
+none_more rows r (b ∷ bs) rest is =
+    (elim (byte_taken rows r b) as (λ o.
+    option_and_then (λ (taken : Reading × Option Shown). option_map (shown_first taken.1) (bytes_taken rows taken.0 bs)) o ≡ None
+    → option_and_then (λ (taken : Reading × Option Shown). option_map (shown_first taken.1) (bytes_taken rows taken.0 (bs ++ rest))) o ≡ None) [
+      | None ↦ λ none. refl
+      | Some taken ↦ λ none. ap (option_map (shown_first taken.1))
+          (none_more rows taken.0 bs rest (none_map taken.1 (bytes_taken rows taken.0 bs) none))
+    ]) is
+
+pub line_falls : (r : Reading) (v : VcdReader) (text rest : List ℕ) (time : ℕ) → IsReading r v → v.body.place ≡ places.Gap → IsTimeLine text rest time
+    → time_taken r r.time time ≡ None → bytes_taken (rows_of v) r text ≡ None
+line_falls r v text rest time is place line falls =
+    ap (bytes_taken (rows_of v) r) line.text_is
+    ∙ none_more (rows_of v) r line.line rest (line_says (rows_of v) r v text rest time is place line ∙ ap listed falls)
