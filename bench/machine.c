@@ -23,7 +23,8 @@ static struct lane {
 } lanes[THREADS];
 
 static const vme_class all = { 32, 1, 1, 1 };
-static const vme_waiter waiter = { NULL, 0, NULL, NULL };
+static vme_releases releases = VME_RELEASES_INIT;
+static const vme_waiter waiter = { &releases, 0, NULL, NULL };
 static const uint8_t code = 0x09;
 static vme_entry entries[THREADS];
 static pthread_mutex_t bus = PTHREAD_MUTEX_INITIALIZER;

@@ -212,4 +212,43 @@ uint8_t vme_processor_run(vme_processor *p)
     return result;
 }
 
+/* ---- Transfers of one datum in one call ---- */
+
+/* Makes the steps of a transfer whose start returned this, and forgets it if it ends. Writes the bytes that it has read to out, if out is not
+   null. */
+static uint8_t run_single(vme_processor *p, uint8_t result, vme_datum *out)
+{
+    struct processor *own = of(p);
+    if (result != VME_OK)
+        return result;
+    result = vme_processor_run(p);
+    if (own->phase != ENDED)
+        return result;
+    own->phase = IDLE;
+    if (out && result == VME_OK) {
+        memset(out, 0, sizeof *out);
+        out->n = (uint8_t)own->have;
+        memcpy(out->bytes, own->bytes, own->have);
+    }
+    return result;
+}
+
+uint8_t vme_processor_read(vme_processor *p, uint8_t am, uint32_t addr, uint8_t n, vme_datum *out)
+{
+    const vme_request request = { .am = am, .addr = addr, .n = n };
+    return run_single(p, vme_processor_start_read(p, &request), out);
+}
+
+uint8_t vme_processor_write(vme_processor *p, uint8_t am, uint32_t addr, const vme_datum *datum)
+{
+    const vme_request request = { .kind = VME_WRITE, .am = am, .addr = addr };
+    return run_single(p, vme_processor_start_write(p, &request, datum->bytes, datum->n > 8 ? 8 : datum->n), NULL);
+}
+
+uint8_t vme_processor_modify(vme_processor *p, uint8_t am, uint32_t addr, uint8_t n, const vme_modify *f, vme_datum *out)
+{
+    const vme_request request = { .am = am, .addr = addr, .n = n };
+    return run_single(p, vme_processor_start_modify(p, &request, f), out);
+}
+
 #endif

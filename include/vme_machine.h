@@ -170,10 +170,24 @@ uint8_t vme_processor_step(vme_processor *p);
  * bytes. */
 uint8_t vme_processor_step_reply(vme_processor *p, uint8_t *reply, vme_datum *bytes);
 
-/* Makes steps as vme_processor_step does, one after another, without a call for each. Stops after a step whose result is the end,
- * VME_NOT_GRANTED, VME_BUSY or VME_SPENT, and after one that has released the bus: a put or a take may return VME_MORE then.
- * Returns the result of the last step, and fails as a step does. */
+/* Makes steps as vme_processor_step does, one after another, without a call for each. Stops after a step whose
+ * result is the end, VME_NOT_GRANTED, VME_BUSY or VME_SPENT, and after one that has released the bus: a put or
+ * a take may return VME_MORE then. Returns the result of the last step, and fails as a step does. */
 uint8_t vme_processor_run(vme_processor *p);
+
+/* Starts a read of n bytes of one datum and makes its steps, as vme_processor_start_read and vme_processor_run
+ * do, and faster. With VME_OK it writes the bytes to out. With VME_OK, VME_BERR and VME_NO_BOARD the transfer
+ * has ended, and the processor keeps nothing of it: as if nothing was started, a step then fails with
+ * VME_BAD_CALL. With VME_NOT_GRANTED, VME_BUSY and VME_SPENT it was started and goes on: vme_processor_run
+ * continues it, and vme_processor_bytes gives what it reads. The processor keeps it too with VME_BUS_DENIED,
+ * which no processor of a machine gets. Else fails as vme_processor_start_read does. */
+uint8_t vme_processor_read(vme_processor *p, uint8_t am, uint32_t addr, uint8_t n, vme_datum *out);
+
+/* The same for a write of a datum, which is copied. */
+uint8_t vme_processor_write(vme_processor *p, uint8_t am, uint32_t addr, const vme_datum *datum);
+
+/* The same for a read-modify-write of n bytes by f, which writes the old ones to out. */
+uint8_t vme_processor_modify(vme_processor *p, uint8_t am, uint32_t addr, uint8_t n, const vme_modify *f, vme_datum *out);
 
 /* Writes the bytes that the last transfer read, once it has ended, and their number to count: after a
  * read-modify-write the old ones, after a bus error those before it, and otherwise none. Fails with

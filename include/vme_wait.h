@@ -3,8 +3,8 @@
  * A call of the machine only tries. A call of this file tries again until it has ended:
  *
  * - while another thread is inside the same object (VME_BUSY), it spins, yields, and then sleeps;
- * - while another slot has the bus (VME_NOT_GRANTED), it spins and then sleeps on a count of releases, which
- *   each release of the bus by this file increments and wakes;
+ * - while another slot has the bus (VME_NOT_GRANTED), it looks at a count of releases, which each release of
+ *   the bus by this file increments, yields, and in the end sleeps on it until a release wakes it;
  * - a lock that another processor has is tried again after a write, a put or a take of this file that ended;
  * - a put or a take is tried again after one of this file that moved a word, while the mailbox is full or empty.
  *
@@ -90,11 +90,23 @@ static inline uint8_t vme_make_events(vme_processor *p, const vme_waiter *waiter
     return result;
 }
 
-/* Steps what was started until it ends, or until its next event if `once` is not 0. Returns the result of the last step. Each release of the
- * bus wakes those that wait for it. */
-static inline uint8_t vme_go_on(vme_processor *p, const vme_waiter *waiter, int once)
+/* Whether what was started goes on after a call that returned this: another thread is inside the object, or another slot has the bus. */
+static inline int vme_goes_on(uint8_t result)
 {
-    vme_tries tries = { 0, 0 };
+    return result == VME_BUSY || result == VME_NOT_GRANTED;
+}
+
+/* Waits once after a call that returned one of these. The count of releases had this value before it. Returns 0 if the waiter's limit is
+ * reached. */
+static inline int vme_wait_for_bus(const vme_waiter *waiter, uint8_t result, uint32_t value, vme_tries *tries)
+{
+    return vme_wait(waiter, result == VME_BUSY ? NULL : vme_bus_of(waiter), value, tries);
+}
+
+/* Steps what was started until it ends, or until its next event if `once` is not 0, after these tries. Returns the result of the last step.
+ * Each release of the bus wakes those that wait for it. */
+static inline uint8_t vme_go_on_after(vme_processor *p, const vme_waiter *waiter, int once, vme_tries *tries)
+{
     for (;;) {
         const uint32_t value = vme_count_value(vme_bus_of(waiter));
         int released;
@@ -102,11 +114,17 @@ static inline uint8_t vme_go_on(vme_processor *p, const vme_waiter *waiter, int 
         if (released)
             vme_count_increment(vme_bus_of(waiter));
         if (result == VME_MORE && !once)
-            memset(&tries, 0, sizeof tries);
-        else if ((result != VME_BUSY && result != VME_NOT_GRANTED)
-                 || !vme_wait(waiter, result == VME_BUSY ? NULL : vme_bus_of(waiter), value, &tries))
+            memset(tries, 0, sizeof *tries);
+        else if (!vme_goes_on(result) || !vme_wait_for_bus(waiter, result, value, tries))
             return result;
     }
+}
+
+/* The same without tries before. */
+static inline uint8_t vme_go_on(vme_processor *p, const vme_waiter *waiter, int once)
+{
+    vme_tries tries = { 0, 0 };
+    return vme_go_on_after(p, waiter, once, &tries);
 }
 
 /* Steps a transfer that was started until the processor has the bus, which it keeps until the transfer ends: what other processors do
@@ -124,13 +142,18 @@ static inline uint8_t vme_finish(vme_processor *p, const vme_waiter *waiter)
     return vme_go_on(p, waiter, 0);
 }
 
-/* The same for a transfer that writes. */
-static inline uint8_t vme_finish_write(vme_processor *p, const vme_waiter *waiter)
+/* Wakes those that wait for a write, after a transfer that wrote and ended with this result, which it returns. */
+static inline uint8_t vme_note_write(const vme_waiter *waiter, uint8_t result)
 {
-    const uint8_t result = vme_finish(p, waiter);
     if (result == VME_OK || result == VME_BERR)
         vme_count_increment(vme_data_of(waiter));
     return result;
+}
+
+/* The same as vme_finish for a transfer that writes. */
+static inline uint8_t vme_finish_write(vme_processor *p, const vme_waiter *waiter)
+{
+    return vme_note_write(waiter, vme_finish(p, waiter));
 }
 
 static inline vme_request vme_request_of(uint8_t kind, uint8_t am, uint32_t addr, uint8_t n, uint16_t count)
@@ -169,35 +192,53 @@ static inline uint32_t vme_word_of(const vme_datum *datum)
     return (uint32_t)datum->bytes[0] << 24 | (uint32_t)datum->bytes[1] << 16 | (uint32_t)datum->bytes[2] << 8 | datum->bytes[3];
 }
 
+/* What follows a call that made a transfer of one datum and returned this: waits until the transfer ends, if it goes on, and else wakes those
+ * that wait for the bus. The count of releases had this value before the call. Returns the result of the end. */
+static inline uint8_t vme_follow(vme_processor *p, const vme_waiter *waiter, uint32_t value, uint8_t result)
+{
+    vme_tries tries = { 0, 0 };
+    if (vme_goes_on(result))
+        return vme_wait_for_bus(waiter, result, value, &tries) ? vme_go_on_after(p, waiter, 0, &tries) : result;
+    if (result == VME_OK || result == VME_BERR || result == VME_NO_BOARD)
+        vme_count_increment(vme_bus_of(waiter));
+    return result;
+}
+
 /* Reads n bytes at an address by one cycle. Returns VME_OK, VME_BERR, VME_NO_BOARD, a refusal, or what the waiter's limit
  * gives. */
 static inline uint8_t vme_read(vme_processor *p, const vme_waiter *waiter, uint8_t am, uint32_t addr, uint8_t n, vme_datum *out)
 {
-    const vme_request request = vme_request_of(VME_READ, am, addr, n, 0);
-    uint8_t result = vme_processor_start_read(p, &request);
-    if (result == VME_OK)
-        result = vme_finish(p, waiter);
-    return result == VME_OK ? vme_read_bytes(p, out) : result;
+    const uint32_t value = vme_count_value(vme_bus_of(waiter));
+    uint8_t first, result;
+    vme_before_event(waiter);
+    first = vme_processor_read(p, am, addr, n, out);
+    vme_after_event(waiter);
+    result = vme_follow(p, waiter, value, first);
+    return result == VME_OK && first != VME_OK ? vme_read_bytes(p, out) : result;
 }
 
 /* Writes a datum at an address by one cycle. Returns what a read does. */
 static inline uint8_t vme_write(vme_processor *p, const vme_waiter *waiter, uint8_t am, uint32_t addr, const vme_datum *datum)
 {
-    const size_t n = datum->n > 8 ? 8 : datum->n;
-    const vme_request request = vme_request_of(VME_WRITE, am, addr, (uint8_t)n, 0);
-    const uint8_t result = vme_processor_start_write(p, &request, datum->bytes, n);
-    return result == VME_OK ? vme_finish_write(p, waiter) : result;
+    const uint32_t value = vme_count_value(vme_bus_of(waiter));
+    uint8_t result;
+    vme_before_event(waiter);
+    result = vme_processor_write(p, am, addr, datum);
+    vme_after_event(waiter);
+    return vme_note_write(waiter, vme_follow(p, waiter, value, result));
 }
 
 /* Modifies n bytes at an address in one step, and writes the old ones to out. Returns what a read does. */
 static inline uint8_t vme_read_modify_write(vme_processor *p, const vme_waiter *waiter, uint8_t am, uint32_t addr, uint8_t n,
                                             const vme_modify *f, vme_datum *out)
 {
-    const vme_request request = vme_request_of(VME_MODIFY, am, addr, n, 0);
-    uint8_t result = vme_processor_start_modify(p, &request, f);
-    if (result == VME_OK)
-        result = vme_finish_write(p, waiter);
-    return result == VME_OK ? vme_read_bytes(p, out) : result;
+    const uint32_t value = vme_count_value(vme_bus_of(waiter));
+    uint8_t first, result;
+    vme_before_event(waiter);
+    first = vme_processor_modify(p, am, addr, n, f, out);
+    vme_after_event(waiter);
+    result = vme_note_write(waiter, vme_follow(p, waiter, value, first));
+    return result == VME_OK && first != VME_OK ? vme_read_bytes(p, out) : result;
 }
 
 /* Reads a block of count data of n bytes each to out, which has count * n bytes. Writes to moved how many bytes were read: all with

@@ -8,7 +8,7 @@
  *               up; 0 for no limit. It then returns what it waited for: VME_BUSY if a thread or a process
  *               has stopped or died inside the object, and VME_NOT_GRANTED if one has the bus and does
  *               not release it. The transfer still goes on: vme_finish continues it.
- * pause.        Called in place of each spin and sleep, with the pointer `with`, if it is not null: a simulator
+ * pause.        Called in place of each look, yield and sleep, with the pointer `with`, if it is not null: a simulator
  *               runs its other work there. limit then is the number of pauses.
  *
  * Thread sanitizer: the archive is not instrumented. A program that is, gets each call of this file as an
@@ -88,7 +88,23 @@ typedef struct vme_waiter {
 
 /* ---- Sleeping, for the calls below ---- */
 
-enum { VME_SPINS = 10, VME_YIELDS = 200, VME_MOST_SLEEP = 1000000 /* ns */ };
+enum {
+    VME_SPINS = 10,
+    VME_YIELDS = 200,
+    VME_LOOKS = 256,         /* at a count, in a round */
+    VME_ROUNDS = 32,         /* before a sleep on it */
+    VME_MOST_SLEEP = 1000000 /* ns */
+};
+
+/* Lets the other thread of a core run, for a moment. */
+static inline void vme_relax(void)
+{
+#if defined(__x86_64__) || defined(__i386__)
+    __builtin_ia32_pause();
+#elif defined(__aarch64__)
+    __asm__ volatile("yield");
+#endif
+}
 
 /* The value of a count, or 0 without one. */
 static inline uint32_t vme_count_value(const vme_count *count)
@@ -148,6 +164,17 @@ static inline int vme_sleep(void)
     return vme_count_sleep(&alone, 0);
 }
 
+/* Looks at a count until it has another value than this, and otherwise yields the thread in the end. */
+static inline void vme_count_look(const vme_count *count, uint32_t value)
+{
+    for (int i = 0; i < VME_LOOKS; i++) {
+        if (vme_count_value(count) != value)
+            return;
+        vme_relax();
+    }
+    sched_yield();
+}
+
 /* How often a call has tried, and how many sleeps in a row changed nothing. */
 typedef struct vme_tries {
     uint32_t tries;
@@ -155,23 +182,21 @@ typedef struct vme_tries {
 } vme_tries;
 
 /* Waits once before the next try: for a change of count, which had this value before the try, or for a moment if count
- * is null. Returns 0 if the waiter's limit is reached. */
+ * is null. A wake-up takes longer than the transfers of others, so it looks for a while before it sleeps. Returns 0 if
+ * the waiter's limit is reached. */
 static inline int vme_wait(const vme_waiter *waiter, vme_count *count, uint32_t value, vme_tries *tries)
 {
-    const uint32_t spins = VME_SPINS, yields = count ? 0 : VME_YIELDS;
     if (waiter->limit && tries->slept >= waiter->limit)
         return 0;
     tries->tries++;
     if (waiter->pause) {
         waiter->pause(waiter->with);
         tries->slept++;
-    } else if (tries->tries <= spins) {
-#if defined(__x86_64__) || defined(__i386__)
-        __builtin_ia32_pause();
-#elif defined(__aarch64__)
-        __asm__ volatile("yield");
-#endif
-    } else if (tries->tries <= spins + yields) {
+    } else if (count && tries->tries <= VME_ROUNDS) {
+        vme_count_look(count, value);
+    } else if (!count && tries->tries <= VME_SPINS) {
+        vme_relax();
+    } else if (!count && tries->tries <= VME_SPINS + VME_YIELDS) {
         sched_yield();
     } else {
         const int is_whole = count ? vme_count_sleep(count, value) : vme_sleep();

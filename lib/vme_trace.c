@@ -29,6 +29,9 @@ UNTRACED(processor_start_read);
 UNTRACED(processor_start_write);
 UNTRACED(processor_start_modify);
 UNTRACED(processor_step_reply);
+UNTRACED(processor_read);
+UNTRACED(processor_write);
+UNTRACED(processor_modify);
 UNTRACED(processor_bytes);
 UNTRACED(processor_start_lock);
 UNTRACED(processor_start_unlock);
@@ -613,6 +616,56 @@ uint8_t vme_processor_run(vme_processor *p)
         result = vme_processor_step_reply(p, &reply, &bytes);
     } while (result == VME_MORE && reply != VME_BUS_FREED);
     return result;
+}
+
+/* Notes a transfer of one datum that was made by a call which returned this, and logs it if it has ended: its bytes were moved unless it had a
+ * bus error. Gives the log back. Returns the result. */
+static uint8_t made(traced *own, int is_logged, uint8_t result, const vme_request *request, const vme_datum *moved)
+{
+    const vme_datum none = { 0, { 0 } };
+    const int has_ended = result == VME_OK || result == VME_BERR || result == VME_NO_BOARD;
+    if (has_ended || result == VME_NOT_GRANTED || result == VME_BUSY || result == VME_SPENT)
+        started(own, VME_OK, request, request->kind);
+    if (has_ended)
+        own->is_running = 0;
+    if (has_ended && is_logged)
+        log_datum(own, result == VME_OK ? moved : &none, result != VME_OK);
+    if (is_logged)
+        leave(own->to);
+    return result;
+}
+
+/* Each of these three makes its events with the log's lock held. */
+uint8_t vme_processor_read(vme_processor *p, uint8_t am, uint32_t addr, uint8_t n, vme_datum *out)
+{
+    const vme_request request = { .kind = VME_READ, .am = am, .addr = addr, .n = n };
+    traced *own = of(p);
+    if (!own)
+        return VME_CLOSED;
+    const int is_logged = enter(own->to);
+    return made(own, is_logged, untraced_vme_processor_read(&own->own, am, addr, n, out), &request, out);
+}
+
+uint8_t vme_processor_write(vme_processor *p, uint8_t am, uint32_t addr, const vme_datum *datum)
+{
+    const vme_request request = { .kind = VME_WRITE, .am = am, .addr = addr, .n = datum->n };
+    traced *own = of(p);
+    if (!own)
+        return VME_CLOSED;
+    const int is_logged = enter(own->to);
+    if (!own->is_running)
+        memcpy(own->bytes, datum->bytes, sizeof datum->bytes);
+    return made(own, is_logged, untraced_vme_processor_write(&own->own, am, addr, datum), &request, datum);
+}
+
+uint8_t vme_processor_modify(vme_processor *p, uint8_t am, uint32_t addr, uint8_t n, const vme_modify *f, vme_datum *out)
+{
+    const vme_request request = { .kind = VME_MODIFY, .am = am, .addr = addr, .n = n, .f = *f };
+    traced *own = of(p);
+    if (!own)
+        return VME_CLOSED;
+    const int is_logged = enter(own->to);
+    return made(own, is_logged, untraced_vme_processor_modify(&own->own, am, addr, n, f, out), &request, out);
 }
 
 uint8_t vme_processor_bytes(vme_processor *p, uint8_t *out, size_t size, size_t *count)

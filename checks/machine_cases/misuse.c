@@ -180,6 +180,50 @@ static void check_transfers(void)
     want("close", close_all(p, 2), VME_OK);
 }
 
+/* Transfers of one datum in one call: alone, and while another processor has the bus. */
+static void check_single(void)
+{
+    vme_processor p[2] = { { 0, NULL }, { 0, NULL } }, empty = { 0, NULL };
+    const vme_modify add = { VME_ADD, { 2, { 0, 1 } }, { 0, { 0 } } };
+    const vme_request read = vme_request_of(VME_READ, AM, address(0, 0), 4, 0);
+    const vme_datum datum = { 4, { 1, 2, 3, 4 } }, too_long = { 9, { 0 } }, none = { 0, { 0 } };
+    vme_datum out = { 7, { 9 } };
+    size_t count = 9;
+    want("read of a closed one", vme_processor_read(&empty, AM, address(1, 4), 4, &out), VME_CLOSED);
+    want("write of a closed one", vme_processor_write(&empty, AM, address(1, 4), &datum), VME_CLOSED);
+    want("modify of a closed one", vme_processor_modify(&empty, AM, address(1, 4), 2, &add, &out), VME_CLOSED);
+    open_two(p);
+    want("a read of no byte", vme_processor_read(&p[0], AM, address(1, 4), 0, &out), VME_K8);
+    want("a write of no byte", vme_processor_write(&p[0], AM, address(1, 4), &none), VME_K8);
+    want("a write of nine bytes", vme_processor_write(&p[0], AM, address(1, 4), &too_long), VME_K8);
+    want("an operand of two bytes for four", vme_processor_modify(&p[0], AM, address(1, 4), 4, &add, &out), VME_K8);
+    want("K3", vme_processor_read(&p[0], AM, address(1, 3), 2, &out), VME_K3);
+    want("K5", vme_processor_read(&p[0], BLOCK_AM, address(1, 4), 4, &out), VME_K5);
+    want("no board", vme_processor_read(&p[0], AM, 0x0f000000, 4, &out), VME_NO_BOARD);
+    want("what failed reads wrote", out.n, 7);
+    want("write", vme_processor_write(&p[0], AM, address(1, 4), &datum), VME_OK);
+    want("modify", vme_processor_modify(&p[1], AM, address(1, 6), 2, &add, &out), VME_OK);
+    want("its old bytes", (uint8_t)(out.n == 2 && out.bytes[0] == 3 && out.bytes[1] == 4), 1);
+    want("read", vme_processor_read(&p[0], AM, address(1, 4), 4, &out), VME_OK);
+    want("its bytes", (uint8_t)(out.n == 4 && out.bytes[0] == 1 && out.bytes[3] == 5), 1);
+    want("a step after its end", vme_processor_step(&p[0]), VME_BAD_CALL);
+    want("bytes after its end", vme_processor_bytes(&p[0], out.bytes, 8, &count), VME_OK);
+    want("their number", (uint8_t)count, 0);
+    want("start", vme_processor_start_read(&p[0], &read), VME_OK);
+    want("a read before its end", vme_processor_read(&p[0], AM, address(1, 4), 4, &out), VME_BAD_CALL);
+    want("acquire", vme_acquire(&p[0], &waiter), VME_OK);
+    want("a read while the bus is taken", vme_processor_read(&p[1], AM, address(1, 4), 4, &out), VME_NOT_GRANTED);
+    want("it goes on", vme_processor_run(&p[1]), VME_NOT_GRANTED);
+    want("a write before its end", vme_processor_write(&p[1], AM, address(1, 4), &datum), VME_BAD_CALL);
+    want("finish", vme_finish(&p[0], &waiter), VME_OK);
+    want("the other", vme_processor_run(&p[1]), VME_OK);
+    want("its end again", vme_processor_step(&p[1]), VME_OK);
+    want("its bytes", vme_processor_bytes(&p[1], out.bytes, 8, &count), VME_OK);
+    want("their number and the last one", (uint8_t)(count == 4 && out.bytes[3] == 5), 1);
+    want("a write after it", vme_processor_write(&p[1], AM, address(1, 4), &datum), VME_OK);
+    want("close", close_all(p, 2), VME_OK);
+}
+
 /* A block past the end of a board moves the data before the end. */
 static void check_blocks(void)
 {
@@ -215,6 +259,7 @@ int main(void)
     check_closed();
     check_close();
     check_transfers();
+    check_single();
     check_blocks();
     puts("each misuse has its result");
     return 0;

@@ -10,3 +10,4 @@ pub mod Requests
 pub mod Transfers
 pub mod Shared
 pub mod Steps
+pub mod Singles

@@ -64,7 +64,7 @@ fn end_or(processor: &Processor, other: u8) -> u8
 }
 
 /// The number of a step by what it came to.
-fn met_number(processor: &Processor, met: Met) -> u8
+pub(crate) fn met_number(processor: &Processor, met: Met) -> u8
     ensures { NumbersMet met processor.now result }
 {
     match met {

@@ -8,6 +8,7 @@ mod opening;
 mod processor;
 mod run;
 mod shared;
+mod single;
 mod transfer;
 mod work;
 
@@ -16,4 +17,5 @@ pub use local_read::LocalRead;
 pub use opening::{OpenError, Place, open};
 pub use processor::Processor;
 pub use run::Met;
+pub use single::Transferred;
 pub use transfer::{StartFault, StepFault};

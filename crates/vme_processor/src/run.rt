@@ -1,5 +1,5 @@
 //! Steps of what a processor does over the bus, one after another.
-ghost use Rattle.std.specs.Prelude.{◌≡◌, Ok, Some};
+ghost use Rattle.std.specs.Prelude.{◌≡◌, Ok, Err, Some};
 ghost use Rattle.vme_processor.specs.Runs.{Stepped, Runs, met_of};
 
 use crate::processor::Processor;
@@ -44,6 +44,18 @@ impl Met {
         }
     }
 
+    /// Returns what a step without an event came to.
+    #[inline(always)]
+    pub(crate) fn of_fault(fault: &StepFault) -> Met
+        ensures { result ≡ met_of (Err fault.now) }
+    {
+        match fault {
+            StepFault::Busy => Met::Busy,
+            StepFault::Spent => Met::Spent,
+            StepFault::NoBoard => Met::NoBoard,
+        }
+    }
+
     /// Returns what a step came to, by what `Processor::step` returned.
     #[inline(always)]
     pub fn of(stepped: &Result<Option<EventReply>, StepFault>) -> Met
@@ -52,9 +64,7 @@ impl Met {
         match stepped {
             Ok(Some(reply)) => Met::of_reply(reply),
             Ok(None) => Met::Nothing,
-            Err(StepFault::Busy) => Met::Busy,
-            Err(StepFault::Spent) => Met::Spent,
-            Err(StepFault::NoBoard) => Met::NoBoard,
+            Err(fault) => Met::of_fault(fault),
         }
     }
 }

@@ -53,7 +53,7 @@ pub enum StepFault {
 
 /// Performs an operation on the board at an index.
 #[inline(always)]
-fn access<A: Operation<ByteMemory>>(
+pub(crate) fn access<A: Operation<ByteMemory>>(
     member: &mut Member<BusObject>,
     boards: usize,
     board: usize,
@@ -77,7 +77,7 @@ fn access<A: Operation<ByteMemory>>(
 
 /// Performs a command on the arbiter.
 #[inline(always)]
-fn command(
+pub(crate) fn command(
     member: &mut Member<BusObject>,
     boards: usize,
     cmd: &ArbCmd,
