@@ -55,6 +55,21 @@ class Failing:
             ended = self.run(words, given, refuse=number, refuse_on=met.fileno())
             return ended, os.fstat(met.fileno()).st_size > 0
 
+    def growths(self, words: list, given: bytes = b"") -> int:
+        """How many growths of memory a run has, by bisection; 0 where none can be refused."""
+        if self.library is None:
+            return 0
+        met, not_met = 0, 1
+        while self.refused(words, given, not_met)[1]:
+            met, not_met = not_met, 2 * not_met
+        while not_met - met > 1:
+            middle = (met + not_met) // 2
+            if self.refused(words, given, middle)[1]:
+                met = middle
+            else:
+                not_met = middle
+        return met
+
     def each_growth(self, expect: Callable, words: list, given: bytes = b"", told: tuple = (b"bendrika: memory\n",),
                     begin: bytes | None = None) -> int:
         """With each growth of memory refused in turn a run gives the whole answer, or a prefix of it and one of the texts `told`.

@@ -1,7 +1,7 @@
 //! `bendrika judge --history`.
 use crate::fault::{Fault, printed};
 use crate::input::{bytes_of, input_of, name_of, refuse};
-use crate::memory::{free_bytes, states_within};
+use crate::memory::{free_bytes, states_with_boards};
 use crate::status::Status;
 use clap::ArgMatches;
 use vme_check::shown_name;
@@ -60,7 +60,7 @@ fn judge_named(rt: &HostRuntime, words: &ArgMatches<'_>, config: &Config) -> Res
         return Ok(Status::Fault);
     };
     let name = shown_name(rt.alloc(), name_of(path))?;
-    let fitting = states_within(rt.alloc(), config, free_bytes(rt)?)?;
+    let fitting = states_with_boards(config, free_bytes(rt)?);
     let limit: usize = words.get_one("states").unwrap_or(1);
     let asked = Asked {
         name: name.as_str(),

@@ -26,6 +26,7 @@ mod outcomes_json;
 mod outcomes_limit;
 mod outcomes_page;
 mod page;
+mod progress;
 mod restated;
 mod serve;
 mod split;

@@ -6,6 +6,7 @@ use crate::memory::{free_bytes, most_bytes, states_within};
 use crate::outcomes_json::{json_limit, json_of};
 use crate::outcomes_limit::{frequent_line, report_limit, report_states};
 use crate::outcomes_page::{Chosen, page_of};
+use crate::progress::Progress;
 use crate::status::Status;
 use crate::stuck::ends_listed;
 use clap::ArgMatches;
@@ -13,12 +14,10 @@ use std::alloc::{AllocError, Global};
 use std::io;
 use vme_check::shown_name;
 use vme_engines::ProgramFault;
+use vme_explore::{Unwatched, Watch};
 use vme_io::{Io, SliceSource};
 use vme_outcome_listing::{Asked, Condition, Form, Kept, Kind, OutcomesFault, outcomes_engine};
 use vme_script::{Config, ConfigFault};
-
-/// The numbers of states at which a search says how far it is, if the words ask for it.
-pub(crate) const STAGES: [usize; 4] = [10_000, 100_000, 1_000_000, 10_000_000];
 
 /// The conditions that the words state, each with its text.
 #[derive(Drop)]
@@ -180,9 +179,11 @@ fn list_file(
         file,
     };
     let end = if words.get_flag("progress") {
-        list_by_stages(rt, &search)
+        let mut progress = Progress::new(rt);
+        list_within(rt, &search, &mut progress)
     } else {
-        list_within(rt, &search, asked.limit)
+        let mut unwatched = Unwatched;
+        list_within(rt, &search, &mut unwatched)
     };
     match end {
         Ok(status) => Ok(status),
@@ -237,7 +238,8 @@ fn end_at_limit(
     let limit = asked.limit;
     let used = most_bytes(rt)?;
     let line = match Config::read(rt.alloc(), search.file) {
-        Ok(config) => frequent_line(rt.alloc(), &config, limit),
+        Ok(config) => frequent_line(rt.alloc(), &config, limit)?,
+        Err(ConfigFault::OutOfMemory) => return Err(Fault::Memory),
         Err(_) => None,
     };
     if search.print == Print::Objects {
@@ -255,27 +257,27 @@ fn end_at_limit(
 /// configuration, which the search reports.
 fn states_of_file(alloc: Global, file: &[u8], bytes: u64) -> Result<usize, AllocError> {
     match Config::read(alloc, file) {
-        Ok(config) => states_within(alloc, &config, bytes),
+        Ok(config) => Ok(states_within(&config, bytes)),
         Err(ConfigFault::OutOfMemory) => Err(AllocError),
         Err(_) => Ok(usize::MAX),
     }
 }
 
 /// Runs the engine on the bytes of a file, and prints what is asked of the list.
-fn list_within(
+fn list_within<W: Watch>(
     rt: &HostRuntime,
     search: &Search<'_>,
-    limit: usize,
+    watch: &mut W,
 ) -> Result<Status, OutcomesFault> {
-    let asked = search.asked.within(limit);
+    let asked = search.asked;
     let mut source = SliceSource::new(search.file, usize::MAX, usize::MAX);
     if search.print == Print::Text {
         let mut writer = Io::new(io::writer(rt));
-        let holds = outcomes_engine(rt.alloc(), &asked, &mut source, &mut writer)?;
+        let holds = outcomes_engine(rt.alloc(), asked, &mut source, &mut writer, watch)?;
         return Ok(status_of(holds));
     }
     let mut gathered = Gathered::new(rt.alloc());
-    let holds = match outcomes_engine(rt.alloc(), &asked, &mut source, &mut gathered) {
+    let holds = match outcomes_engine(rt.alloc(), asked, &mut source, &mut gathered, watch) {
         Ok(holds) => holds,
         Err(OutcomesFault::Program(ProgramFault::Write)) => {
             return Err(OutcomesFault::Program(ProgramFault::Memory));
@@ -303,23 +305,4 @@ fn print_list(rt: &HostRuntime, search: &Search<'_>, text: &[u8]) -> Result<Stat
     let text = std::str::from_utf8(text).unwrap_or("");
     printed(rt, json_of(rt.alloc(), search.name, text)?.as_str())?;
     Ok(Status::Done)
-}
-
-/// Runs the engine with one limit after another, and reports on standard error which were passed. A
-/// search that passes its limit has written nothing, and the next one begins anew.
-fn list_by_stages(rt: &HostRuntime, search: &Search<'_>) -> Result<Status, OutcomesFault> {
-    let asked = search.asked;
-    let limit = asked.limit;
-    for stage in STAGES {
-        if limit <= stage {
-            break;
-        }
-        match list_within(rt, search, stage) {
-            Err(OutcomesFault::Limit) => {
-                let _ = eprintln!(rt; "bendrika: {stage} states passed, searching on");
-            }
-            end => return end,
-        }
-    }
-    list_within(rt, search, limit)
 }

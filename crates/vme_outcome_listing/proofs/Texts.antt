@@ -4,7 +4,7 @@ use Rattle.std.specs.Prelude.{slice_get, option_map, unwrap_or}
 use Rattle.std.specs.List.{flat_map, range_with_len}
 use Rattle.std.proofs.lemmas.List.{append-nil, drop_more, drop_all, length-map}
 use Rattle.std.proofs.lemmas.Option.{slice_get_within, slice_get_cases, get_or_from_slice_get, slice_get-map, same_Some}
-use Rattle.vme_memory.specs.Boards.{Board}
+use Rattle.vme_memory.specs.Boards.{Board, zeros}
 use Rattle.vme_report.specs.Texts.{replies_text, dump_row, row_text, row_count, memory_text}
 use Rattle.vme_script.specs.ReplyTexts.{line_text}
 use Rattle.vme_script.specs.declared.script.ScriptLine.{ScriptLine}
@@ -203,3 +203,8 @@ rows_done slot i bytes text whole past so_far =
     let none : row_count bytes - i ≡ 0 = omega (arith, past) in
     sym (append-nil text)
     ∙ ap (λ (k : ℕ). text ++ flat_map (λ k. row_text slot (16 * k) (dump_row bytes k)) (range_with_len i k)) (sym none) ∙ so_far
+
+-- a row of zeros has no text
+pub blank_row_text : (text row : List ℕ) (slot offset : ℕ) → row ≡ zeros 16 → text ≡ text ++ row_text slot offset row
+unfolding row_text zeros
+blank_row_text text row slot offset is = rw is (sym (append-nil text))

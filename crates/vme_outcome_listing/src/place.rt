@@ -7,8 +7,8 @@ ghost use Rattle.vme_outcome_listing.specs.Places.{bytes_head, head_text, byte_t
 use crate::text::append_reply;
 use std::alloc::AllocError;
 use vme_grammar::{print_hex, print_number};
-use vme_memory::ByteMemory;
 use vme_shared::LineReply;
+use vme_sparse_memory::SparseMemory;
 use vme_states::State;
 
 /// Where a line of a condition looks.
@@ -118,7 +118,7 @@ fn append_bytes(
 
 /// Appends so many bytes of a memory, from an offset on.
 fn append_memory_bytes(
-    memory: &ByteMemory,
+    memory: &SparseMemory,
     offset: u32,
     count: u32,
     text: &mut Vec<u8>,
@@ -133,7 +133,7 @@ fn append_memory_bytes(
 }
 
 /// Returns the byte so far after an offset, or `None` past the end.
-fn byte_at(memory: &ByteMemory, offset: u32, at: u32) -> Option<u8>
+fn byte_at(memory: &SparseMemory, offset: u32, at: u32) -> Option<u8>
     ensures { result ≡ slice_get memory.now.bytes (offset + at) }
 {
     let size = memory.size();

@@ -114,6 +114,14 @@ impl Config {
         self.boards.len()
     }
 
+    /// Returns what the file says of board `i`: its slot, level and addresses, and its class.
+    pub fn board(&self, i: usize) -> BoardConfig
+        requires { i < length self.now.boards }
+        ensures { slice_get self.now.boards i ≡ Some result }
+    {
+        self.boards[i]
+    }
+
     /// Returns the slot of board `i`, which is also the slot of its processor.
     pub fn slot(&self, i: usize) -> u16
         requires { i < length self.now.boards }

@@ -6,6 +6,7 @@ use crate::fault::StuckFault;
 use crate::list::list_dead_ends;
 use crate::print::{append_counts, append_ends};
 use std::alloc::{AllocError, Global};
+use vme_explore::Watch;
 use vme_script::Config;
 use vme_states::ListedOutcome;
 
@@ -19,19 +20,21 @@ pub struct StuckText {
 }
 
 /// Returns the text of the dead ends of a configuration. With `quiet` it is the last line alone.
+/// `watch` notes how far the search is.
 ///
 /// # Errors
 ///
 /// Those of [`list_dead_ends`](crate::list_dead_ends).
-pub fn stuck_text(
+pub fn stuck_text<W: Watch>(
     alloc: Global,
     config: &Config,
     limit: usize,
     quiet: bool,
+    watch: &mut W,
 ) -> Result<StuckText, StuckFault>
     ensures { IfOk result (λ found. IsStuckText config.now quiet found.text.items found.ends) }
 {
-    let found = list_dead_ends(alloc, config, limit)?;
+    let found = list_dead_ends(alloc, config, limit, watch)?;
     let ends = found.ends.len();
     let mut text = Vec::new(alloc);
     append_unless_quiet(config, quiet, found.ends.as_slice(), &mut text)?;

@@ -3,7 +3,7 @@ use Rattle.vme_stuck.specs.Texts.{ends_text, count_text}
 use Rattle.vme_stuck.proofs.text.stuck_text.Goals as goal
 
 pub returns : goal.returns
-returns c =
+returns g c =
     let ends = rw (c.new-text.ensures.items, c.as_slice.ensures.value) at c.in_ok-append_unless_quiet.ensures in
     record {
       listed = c.in_ok-found.found.ends.items;

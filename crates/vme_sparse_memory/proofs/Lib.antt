@@ -1,0 +1,5 @@
+pub mod Windows
+mod Bytes
+mod Places
+mod Entries
+mod Memories
