@@ -20,7 +20,8 @@ explains memory (Stores at byte ∷ accesses) = explains (slice_set memory at by
 -- accesses with unseen stores to open bytes between them
 pub data Adds (open_at : ℕ → Bool) : List Access → List Access → Type 0 where
   none : Adds open_at [] []
-  seen : (access : Access) (accesses more : List Access) → Adds open_at accesses more → Adds open_at (access ∷ accesses) (access ∷ more)
+  seen : (access : Access) (accesses more : List Access) → Adds open_at accesses more
+      → Adds open_at (access ∷ accesses) (access ∷ more)
   unseen : (at byte : ℕ) (accesses more : List Access) → open_at at ≡ true → Adds open_at accesses more
       → Adds open_at accesses (Stores at byte ∷ more)
 
