@@ -78,7 +78,7 @@ def llvm_module(name: str) -> bytes:
         folder = pathlib.Path(place)
         catching_tools(folder / "tools", folder / "module.bc")
         kept = ["--incremental", "out/incremental"] if program.has_kept() else []
-        words = [*program.words(["--jobs", "2"], keeps=bool(kept)), *kept, "--toolchain", f"{folder}/tools", "--backend", "llvm"]
+        words = [*program.words(["--jobs", str(min(4, os.cpu_count() or 1))], keeps=bool(kept)), *kept, "--toolchain", f"{folder}/tools", "--backend", "llvm"]
         status = program.call(rt.rtlib.RATTLE, "build", *words, "-o", f"{folder}/program.o")
         program.out.seek(0)
         if status or not (folder / "module.bc").is_file():
