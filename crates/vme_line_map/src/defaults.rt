@@ -1,4 +1,7 @@
 //! The names that `bendrika trace` writes.
+ghost use Rattle.std.specs.Prelude.{◌≡◌, ◌∷◌, [], IfOk, OnOk, map as map_list};
+ghost use Rattle.vme_line_map.specs.Defaults.{plain, bus_row, slot_row, slot_variables, with_fitting, default_map};
+
 use crate::group::Group;
 use crate::map::{LineMap, Place, Wanted};
 use std::alloc::{AllocError, Global};
@@ -30,19 +33,31 @@ static BUS: [(&str, Group, Place); 17] = [
 /// # Errors
 ///
 /// An allocation failed.
-pub fn default_lines(alloc: Global, slots: &[u8]) -> Result<LineMap, AllocError> {
+pub fn default_lines(alloc: Global, slots: &[u8]) -> Result<LineMap, AllocError>
+    ensures { IfOk result (λ map. map ≡ default_map slots.now) }
+{
     let mut map = LineMap::new(alloc, false);
-    for (name, group, place) in &BUS {
-        add(&mut map, name, *group, *place)?;
-    }
+    add_bus(&mut map, &BUS)?;
     for slot in slots {
         add_slot(alloc, &mut map, *slot)?;
     }
     Ok(map)
 }
 
+/// Adds the variables of the lines of the bus.
+fn add_bus(map: &mut LineMap, rows: &[(&str, Group, Place)]) -> Result<(), AllocError>
+    ensures { OnOk result (map.new ≡ with_fitting map.old (map_list bus_row rows.now)) }
+{
+    for (name, group, place) in rows {
+        add(map, name, *group, *place)?;
+    }
+    Ok(())
+}
+
 /// Adds a variable. A map of 21 slots is not full.
-fn add(map: &mut LineMap, name: &str, group: Group, place: Place) -> Result<(), AllocError> {
+fn add(map: &mut LineMap, name: &str, group: Group, place: Place) -> Result<(), AllocError>
+    ensures { OnOk result (map.new ≡ with_fitting map.old (plain name.now group place ∷ [])) }
+{
     let wanted = Wanted {
         name: name.as_bytes(),
         group,
@@ -54,7 +69,9 @@ fn add(map: &mut LineMap, name: &str, group: Group, place: Place) -> Result<(), 
 }
 
 /// Adds the variables of a slot.
-fn add_slot(alloc: Global, map: &mut LineMap, slot: u8) -> Result<(), AllocError> {
+fn add_slot(alloc: Global, map: &mut LineMap, slot: u8) -> Result<(), AllocError>
+    ensures { OnOk result (map.new ≡ with_fitting map.old (slot_variables slot)) }
+{
     let rows = [
         ("bbsy_n", Group::SlotBusy(slot), 0),
         ("br_n", Group::SlotRequest(slot), 0),
@@ -71,7 +88,19 @@ fn add_slot(alloc: Global, map: &mut LineMap, slot: u8) -> Result<(), AllocError
         ("lp_d15_08", Group::PortData(slot), 8),
         ("lp_d07_00", Group::PortData(slot), 0),
     ];
-    for (name, group, first) in &rows {
+    add_rows(alloc, map, slot, &rows)
+}
+
+/// Adds some variables of a slot.
+fn add_rows(
+    alloc: Global,
+    map: &mut LineMap,
+    slot: u8,
+    rows: &[(&str, Group, u8)],
+) -> Result<(), AllocError>
+    ensures { OnOk result (map.new ≡ with_fitting map.old (map_list (slot_row slot) rows.now)) }
+{
+    for (name, group, first) in rows {
         let mut text = String::new(alloc);
         write!(text, "s{slot}_{name}")?;
         add(map, text.as_str(), *group, Place::From(*first))?;

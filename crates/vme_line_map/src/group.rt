@@ -1,4 +1,6 @@
 //! The lines that a variable may have.
+ghost use Rattle.std.specs.Prelude.{◌≡◌};
+ghost use Rattle.vme_line_map.specs.Groups.{lines, name, is_needed};
 
 /// A group of lines. A slot is numbered from 1.
 #[derive(Clone, Copy, Debug, PartialEq, Eq)]
@@ -34,7 +36,9 @@ pub enum Group {
 
 impl Group {
     /// Returns the number of lines.
-    pub fn lines(self) -> u8 {
+    pub fn lines(self) -> u8
+        ensures { result ≡ lines self }
+    {
         match self {
             Group::Modifier => 6,
             Group::Address | Group::Data | Group::PortOffset(_) | Group::PortData(_) => 32,
@@ -44,7 +48,9 @@ impl Group {
     }
 
     /// Returns what a message calls the lines.
-    pub fn name(self) -> &'static str {
+    pub fn name(self) -> &'static str
+        ensures { result.now ≡ name self }
+    {
         match self {
             Group::AddressStrobe => "AS*",
             Group::UpperStrobe => "DS1*",
@@ -67,7 +73,9 @@ impl Group {
     }
 
     /// Returns whether no trace is judged without these lines.
-    pub fn is_needed(self) -> bool {
+    pub fn is_needed(self) -> bool
+        ensures { result ≡ is_needed self }
+    {
         matches!(
             self,
             Group::AddressStrobe

@@ -1,7 +1,13 @@
 //! The variables that are wanted of a dump.
+ghost use Rattle.std.specs.Prelude.{◌≡◌, ◌≤◌, [], ◌∷◌, ◌==◌, length, Ok, Err, OnErr, slice_get};
+ghost use Rattle.std.specs.Option.{option_map};
+ghost use Rattle.vme_line_map.specs.Variables.{shown, added, most_wanted, Leaves};
+ghost use Rattle.vme_line_map.specs.declared.fault.LinesProblem.TheVariants.{TooMany};
+
 use crate::fault::LinesProblem;
 use crate::group::Group;
 use std::alloc::{AllocError, Global};
+use std::marker::Model;
 
 /// The greatest number of variables that are wanted.
 pub const MOST_WANTED: usize = 500;
@@ -47,10 +53,27 @@ pub struct LineMap {
     is_named: bool,
 }
 
+impl Model for LineMap {
+    ghost use Rattle.vme_line_map.specs.Variables.{Map};
+
+    ghost Value = { Map };
+
+    ghost use Rattle.vme_line_map.specs.Rows.{variables_of, IsStored};
+
+    ghost view = { λ m. record {
+      variables = variables_of m.names.items m.rows.items;
+      is_named = m.is_named;
+    } };
+
+    ghost invariant = { λ m. IsStored m.names.items m.rows.items };
+}
+
 impl LineMap {
     /// Returns a map of no variables. `is_named` says that somebody named them, so that a dump must
     /// have each.
-    pub fn new(alloc: Global, is_named: bool) -> LineMap {
+    pub fn new(alloc: Global, is_named: bool) -> LineMap
+        ensures { result ≡ record { variables = []; is_named = is_named } }
+    {
         LineMap {
             names: Vec::new(alloc),
             rows: Vec::new(alloc),
@@ -59,22 +82,31 @@ impl LineMap {
     }
 
     /// Returns whether a dump must have each variable.
-    pub fn is_named(&self) -> bool {
+    pub fn is_named(&self) -> bool
+        ensures { result ≡ self.now.is_named }
+    {
         self.is_named
     }
 
     /// Returns the number of variables.
-    pub fn len(&self) -> usize {
+    pub fn len(&self) -> usize
+        ensures len { result ≡ length self.now.variables }
+        ensures most { result ≤ most_wanted }
+    {
         self.rows.len()
     }
 
     /// Returns whether there are no variables.
-    pub fn is_empty(&self) -> bool {
+    pub fn is_empty(&self) -> bool
+        ensures { result ≡ (length self.now.variables == 0) }
+    {
         self.rows.is_empty()
     }
 
     /// Returns the variable at an index, if there is one.
-    pub fn get(&self, index: usize) -> Option<Wanted<'_>> {
+    pub fn get(&self, index: usize) -> Option<Wanted<'_>>
+        ensures { option_map shown result ≡ slice_get self.now.variables index }
+    {
         let row = self.rows.as_slice().get(index)?;
         let name = self.names.as_slice().get(row.from..row.to)?;
         Some(Wanted {
@@ -93,7 +125,11 @@ impl LineMap {
     pub(crate) fn add(
         &mut self,
         wanted: &Wanted<'_>,
-    ) -> Result<Result<(), LinesProblem>, AllocError> {
+    ) -> Result<Result<(), LinesProblem>, AllocError>
+        ensures added { Leaves result self.new (added self.old (shown wanted.now ∷ [])) }
+        ensures full { result ≡ Ok (Err TooMany) → self.new ≡ self.old }
+        ensures err { OnErr result (self.new ≡ self.old) }
+    {
         if MOST_WANTED <= self.rows.len() {
             return Ok(Err(LinesProblem::TooMany));
         }

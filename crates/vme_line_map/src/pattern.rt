@@ -1,4 +1,9 @@
 //! The value of a key: names of variables and their bits.
+ghost use Rattle.std.specs.Prelude.{◌≡◌, ◌≤◌, ◌<◌, ◌∷◌, [], Ok, Err, MatchResult, codes};
+ghost use Rattle.vme_line_map.specs.Texts.{cut, number};
+ghost use Rattle.vme_line_map.specs.Variables.{Leaves, added};
+ghost use Rattle.vme_line_map.specs.Patterns.{and_then, pattern, of_name, one_variable, each_of, variables_between, line_variable, bits_of, bits_in as bits_said, place_of as placed_name, whole as whole_place, first_address as lowest_address};
+
 use crate::fault::LinesProblem;
 use crate::group::Group;
 use crate::map::{LineMap, Place, Wanted};
@@ -21,20 +26,49 @@ pub(crate) fn add_pattern(
     group: Group,
     first: u8,
     text: &str,
-) -> Result<Result<(), LinesProblem>, AllocError> {
-    let (is_inverted, name) = match text.strip_prefix("!") {
-        Some(name) => (true, name),
-        None => (false, text),
-    };
+) -> Result<Result<(), LinesProblem>, AllocError>
+    ensures { Leaves result map.new (and_then (pattern group first text.now) (added map.old)) }
+{
+    match text.strip_prefix("!") {
+        Some(name) => add_name(alloc, map, group, first, true, name),
+        None => add_name(alloc, map, group, first, false, text),
+    }
+}
+
+/// Adds the variables of a name without `!`.
+fn add_name(
+    alloc: Global,
+    map: &mut LineMap,
+    group: Group,
+    first: u8,
+    is_inverted: bool,
+    name: &str,
+) -> Result<Result<(), LinesProblem>, AllocError>
+    ensures { Leaves result map.new (and_then (of_name group first is_inverted name.now) (added map.old)) }
+{
     if name.is_empty() || NAME_LIMIT < name.len() {
         return Ok(Err(LinesProblem::BadName));
     }
-    if let Some((before, rest)) = name.split_once("{") {
-        let Some((range, after)) = rest.split_once("}") else {
-            return Ok(Err(LinesProblem::BadRange));
-        };
-        return add_each(alloc, map, group, is_inverted, (before, range, after));
-    }
+    let Some((before, rest)) = name.split_once("{") else {
+        return add_one(map, group, first, is_inverted, name);
+    };
+    let Some((range, after)) = rest.split_once("}") else {
+        return Ok(Err(LinesProblem::BadRange));
+    };
+    add_each(alloc, map, group, is_inverted, (before, range, after))
+}
+
+/// Adds one variable.
+fn add_one(
+    map: &mut LineMap,
+    group: Group,
+    first: u8,
+    is_inverted: bool,
+    name: &str,
+) -> Result<Result<(), LinesProblem>, AllocError>
+    ensures { Leaves result map.new
+        (and_then (and_then (placed_name group first name.now) (one_variable group is_inverted)) (added map.old)) }
+{
     let (name, place) = match place_of(group, first, name) {
         Ok(found) => found,
         Err(problem) => return Ok(Err(problem)),
@@ -54,57 +88,129 @@ fn add_each(
     group: Group,
     is_inverted: bool,
     parts: (&str, &str, &str),
-) -> Result<Result<(), LinesProblem>, AllocError> {
+) -> Result<Result<(), LinesProblem>, AllocError>
+    ensures { Leaves result map.new
+        (and_then (each_of group is_inverted parts.entry.0.now (cut (codes "..") parts.entry.1.now) parts.entry.2.now) (added map.old)) }
+{
     let (before, range, after) = parts;
     let Some((one, other)) = range.split_once("..") else {
         return Ok(Err(LinesProblem::BadRange));
     };
-    let (Ok(one), Ok(other)) = (one.parse::<u8>(), other.parse::<u8>()) else {
+    let (Some(one), Some(other)) = (line(one), line(other)) else {
         return Ok(Err(LinesProblem::BadRange));
     };
     let (low, high) = (one.min(other), one.max(other));
     if group.lines() <= high {
         return Ok(Err(LinesProblem::TooManyBits));
     }
-    for line in 0..32u8 {
-        if line < low || high < line {
-            continue;
-        }
-        let mut text = String::new(alloc);
-        write!(text, "{before}{line}{after}")?;
-        let added = map.add(&Wanted {
-            name: text.as_bytes(),
-            group,
-            place: Place::From(line),
-            is_inverted,
-        })?;
-        if let Err(problem) = added {
+    add_lines(alloc, map, group, is_inverted, (before, after), (low, high))
+}
+
+/// Adds a variable of one bit for each line from one to another.
+fn add_lines(
+    alloc: Global,
+    map: &mut LineMap,
+    group: Group,
+    is_inverted: bool,
+    name: (&str, &str),
+    lines: (u8, u8),
+) -> Result<Result<(), LinesProblem>, AllocError>
+    requires order { lines.0 ≤ lines.1 }
+    requires below { lines.1 < 32 }
+    ensures { Leaves result map.new
+        (added map.old (variables_between (line_variable group is_inverted name.entry.0.now name.entry.1.now) lines.0 lines.1)) }
+{
+    let (before, after) = name;
+    let (low, high) = lines;
+    for line in low..high + 1 {
+        if let Err(problem) = add_line(alloc, map, group, is_inverted, (before, after), line)? {
             return Ok(Err(problem));
         }
     }
     Ok(Ok(()))
 }
 
+/// Adds a variable of one bit for a line.
+fn add_line(
+    alloc: Global,
+    map: &mut LineMap,
+    group: Group,
+    is_inverted: bool,
+    name: (&str, &str),
+    line: u8,
+) -> Result<Result<(), LinesProblem>, AllocError>
+    ensures { Leaves result map.new
+        (added map.old (line_variable group is_inverted name.entry.0.now name.entry.1.now line ∷ [])) }
+{
+    let (before, after) = name;
+    let mut text = String::new(alloc);
+    write!(text, "{before}{line}{after}")?;
+    map.add(&Wanted {
+        name: text.as_bytes(),
+        group,
+        place: Place::From(line),
+        is_inverted,
+    })
+}
+
 /// The name without its bits, and which lines they are.
-fn place_of(group: Group, first: u8, text: &str) -> Result<(&str, Place), LinesProblem> {
+fn place_of(group: Group, first: u8, text: &str) -> Result<(&str, Place), LinesProblem>
+    ensures { MatchResult result (λ found. placed_name group first text.now ≡ Ok (found.0.now, found.1))
+        (λ problem. placed_name group first text.now ≡ Err problem) }
+{
     let Some(inner) = text.strip_suffix("]") else {
-        let is_ranged = matches!(group, Group::Address | Group::Data | Group::Modifier);
-        return Ok((
-            text,
-            if is_ranged && first == 0 {
-                Place::Ranged(0)
-            } else {
-                Place::From(first)
-            },
-        ));
+        return Ok((text, whole(group, first)));
     };
-    let Some((name, bits)) = inner.rsplit_once("[") else {
+    let Some((name, indices)) = inner.rsplit_once("[") else {
         return Err(LinesProblem::BadBits);
     };
-    let (one, other) = bits.split_once(":").unwrap_or((bits, bits));
-    let (Ok(one), Ok(other)) = (one.parse::<u16>(), other.parse::<u16>()) else {
+    match bits_in(group, first, indices) {
+        Ok(place) => Ok((name, place)),
+        Err(problem) => Err(problem),
+    }
+}
+
+/// The bits that `N` or `N:M` says.
+fn bits_in(group: Group, first: u8, indices: &str) -> Result<Place, LinesProblem>
+    ensures { result ≡ bits_said group first indices.now }
+{
+    let (one, other) = indices.split_once(":").unwrap_or((indices, indices));
+    let (Some(one), Some(other)) = (index(one), index(other)) else {
         return Err(LinesProblem::BadBits);
     };
+    bits_between(group, first, one, other)
+}
+
+/// All bits of a variable.
+fn whole(group: Group, first: u8) -> Place
+    ensures { result ≡ whole_place group first }
+{
+    let is_vector = matches!(group, Group::Address | Group::Data | Group::Modifier);
+    if is_vector && first == 0 {
+        Place::Ranged(0)
+    } else {
+        Place::From(first)
+    }
+}
+
+/// The index of a bit.
+fn index(text: &str) -> Option<u16>
+    ensures { result ≡ number 16 text.now }
+{
+    text.parse().ok()
+}
+
+/// The number of a line.
+fn line(text: &str) -> Option<u8>
+    ensures { result ≡ number 8 text.now }
+{
+    text.parse().ok()
+}
+
+/// The bits between two indices.
+fn bits_between(group: Group, first: u8, one: u16, other: u16) -> Result<Place, LinesProblem>
+    ensures { result ≡ bits_of group first one other }
+{
     let (low, high) = (one.min(other), one.max(other));
     let first = if group == Group::Address && first == 0 {
         first_address(high - low)
@@ -114,12 +220,14 @@ fn place_of(group: Group, first: u8, text: &str) -> Result<(&str, Place), LinesP
     if u16::from(group.lines()) <= (high - low).saturating_add(u16::from(first)) {
         return Err(LinesProblem::TooManyBits);
     }
-    Ok((name, Place::Bits { high, low, first }))
+    Ok(Place::Bits { high, low, first })
 }
 
 /// The lowest address line of a vector of one bit more than this: A01 if their number is odd, A02
 /// if it is two less than a multiple of eight, else A00.
-pub(crate) fn first_address(before_last: u16) -> u8 {
+fn first_address(before_last: u16) -> u8
+    ensures { result ≡ lowest_address before_last }
+{
     if before_last % 2 == 0 {
         1
     } else if before_last % 8 == 5 {

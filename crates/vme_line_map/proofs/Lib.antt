@@ -1,0 +1,7 @@
+pub mod StoredRows
+pub mod Fitting
+pub mod TextCuts
+pub mod Places
+pub mod LineSteps
+pub mod Ranges
+pub mod Naming
