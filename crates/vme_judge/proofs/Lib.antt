@@ -3,3 +3,7 @@ pub mod Logs
 pub mod Runs
 pub mod Pieces
 pub mod Ends
+pub mod Dumps
+pub mod DumpSamples
+pub mod DumpRuns
+pub mod DumpBytes

@@ -6,3 +6,5 @@ pub mod Openings
 pub mod Logs
 pub mod Verdicts
 pub mod Runs
+pub mod Dumps
+pub mod DumpRuns

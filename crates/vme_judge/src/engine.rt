@@ -1,5 +1,7 @@
 //! The engine of `bendrika judge`.
 ghost use Rattle.std.specs.Prelude.{◌≡◌, true, false, IfOk, IfSome};
+ghost use Rattle.vme_judge.specs.DumpRuns.{dump_so_far};
+ghost use Rattle.vme_judge.specs.Dumps.{dump_status};
 ghost use Rattle.vme_judge.specs.Faults.{is_read_end, is_write_end};
 ghost use Rattle.vme_judge.specs.Logs.{status_of};
 ghost use Rattle.vme_judge.specs.Runs.{run_so_far};
@@ -86,6 +88,7 @@ fn written<W: Sink>(
     ensures read { is_read_end result ≡ false }
     ensures write { W.is_marked writer.new ≡ is_write_end result }
     ensures status { IfOk result (λ status. status ≡ status_of (run_so_far run.now)) }
+    ensures dump { IfOk result (λ status. status ≡ dump_status (dump_so_far run.now)) }
 {
     if !run.judge.pending.is_empty() {
         write_all(writer, run.judge.pending.as_bytes())?;

@@ -1,5 +1,5 @@
 //! The judgement of a trace, sample by sample.
-ghost use Rattle.std.specs.Prelude.{◌≡◌, ◌==◌, false, Some, None, IfOk, IfSome, IfNone, IsSome, IsTrue, IsFalse, is_some};
+ghost use Rattle.std.specs.Prelude.{◌≡◌, ◌==◌, ◌||◌, not, false, Some, None, IfOk, IfSome, IfNone, IsSome, IsTrue, IsFalse, is_some};
 ghost use Rattle.std.specs.List.{position};
 ghost use Rattle.std.specs.Option.{option_and_then};
 ghost use Rattle.vme_protocol.specs.Watching.{shown, next_watch};
@@ -47,12 +47,16 @@ pub(crate) struct Judge<'a> {
 
 impl Judge<'_> {
     /// Returns whether a sample at rest was seen.
-    pub(crate) fn is_begun(&self) -> bool {
+    pub(crate) fn is_begun(&self) -> bool
+        ensures { result ≡ (is_some self.now.watch || not (self.now.found == 0)) }
+    {
         self.watch.is_some() || self.found != 0
     }
 
     /// Returns whether the next sample is judged by the one before it.
-    pub(crate) fn is_judging(&self) -> bool {
+    pub(crate) fn is_judging(&self) -> bool
+        ensures { result ≡ is_some self.now.watch }
+    {
         self.watch.is_some()
     }
 
@@ -136,6 +140,15 @@ impl Judge<'_> {
         ensures task { KeepsTask self.old self.new }
     {
         count(&mut self.counts.skipped);
+    }
+
+    /// Counts a sample at which nothing has changed.
+    #[tactic(auto, unfolding(crate::specs::Standing::standing))]
+    pub(crate) fn pass(&mut self)
+        ensures standing { standing self.new ≡ standing self.old }
+        ensures task { KeepsTask self.old self.new }
+    {
+        count(&mut self.counts.samples);
     }
 
     /// Forgets at which time AS* fell, which the trace does not show.
@@ -260,7 +273,10 @@ impl Judge<'_> {
     }
 
     /// Takes a rule that a local port breaks. Any byte of its board may have changed.
-    pub(crate) fn port_breaks(&mut self, rule: Rule, slot: u8, spot: Spot) {
+    pub(crate) fn port_breaks(&mut self, rule: Rule, slot: u8, spot: Spot)
+        ensures found { IsSome self.new.finding }
+        ensures task { KeepsTask self.old self.new }
+    {
         self.find(spot, Broken::Port(rule, slot), None, None);
         let boards = self.boards;
         if let Some(answers) = self.answers.as_mut() {

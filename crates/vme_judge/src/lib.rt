@@ -5,6 +5,7 @@
 mod boards;
 mod counts;
 mod dump;
+mod dump_run;
 mod engine;
 mod expected;
 mod fault;

@@ -101,6 +101,7 @@ impl Judge<'_> {
         ensures stops { IfOk result (λ goes_on. IsFalse goes_on → standing self.new ≡ None) }
         ensures once { IfOk result (λ _. IsOnce self.old → IsOnce self.new) }
         ensures ends { IfOk result (λ goes_on. IsOnce self.old → standing self.old ≡ None → IsFalse goes_on) }
+        ensures options { IfOk result (λ _. self.new.options ≡ self.old.options) }
     {
         let Some(finding) = self.finding else {
             return Ok(true);

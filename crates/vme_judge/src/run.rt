@@ -1,7 +1,10 @@
 //! A trace, byte by byte.
-ghost use Rattle.std.specs.Prelude.{◌≡◌, ◌≢◌, ◌||◌, [], ◌∷◌, true, false, Some, None, is_some, IfOk};
+ghost use Rattle.std.specs.Prelude.{◌≡◌, ◌≢◌, ◌||◌, [], ◌∷◌, true, false, Some, None, replicate, is_some, IfOk};
 ghost use Rattle.vme_judge.specs.declared.run.Kind.TheVariants.{Unknown};
 ghost use Rattle.vme_judge.specs.declared.log.Taken.TheVariants.{Legal};
+ghost use Rattle.vme_vcd_reader.specs.Readers.{IsBefore};
+ghost use Rattle.vme_judge.specs.DumpRuns.{dump_so_far};
+ghost use Rattle.vme_judge.specs.Dumps.{Legal as LegalDump};
 ghost use Rattle.vme_judge.specs.Logs.{is_broken};
 ghost use Rattle.vme_judge.specs.Logs.{Legal as LegalSoFar};
 ghost use Rattle.vme_judge.specs.Openings.{opening};
@@ -10,7 +13,7 @@ ghost use Rattle.vme_judge.specs.Runs.{form_after, is_no_dump, log_whole, run_so
 ghost use Rattle.vme_judge.specs.Verdicts.{is_space};
 
 use crate::boards::Board;
-use crate::dump::{Ports, set_scope, take_sample};
+use crate::dump::Ports;
 use crate::judge::Judge;
 use crate::log::{LogState, Taken};
 use crate::options::Options;
@@ -18,7 +21,7 @@ use crate::rejection::{Rejection, Why};
 use std::alloc::{AllocError, Global};
 use vme_bus_log::{LogEntry, LogReader};
 use vme_line_map::LineMap;
-use vme_vcd_reader::{Step, VcdFault, VcdReader};
+use vme_vcd_reader::VcdReader;
 
 /// The form of a trace, by its first byte that is no blank.
 #[derive(Clone, Copy, Debug, PartialEq, Eq)]
@@ -37,7 +40,7 @@ pub(crate) struct Run<'a> {
     pub(crate) rejection: Option<Rejection>,
     log: LogReader,
     state: LogState,
-    ports: Ports,
+    pub(crate) ports: Ports,
 }
 
 impl<'a> Run<'a> {
@@ -53,6 +56,8 @@ impl<'a> Run<'a> {
         boards: &'a [Board],
     ) -> Result<Run<'a>, AllocError>
         ensures opens { IfOk result (λ run. run_so_far run ≡ LegalSoFar (opening options.now boards.now) None) }
+        ensures dump { IfOk result (λ run. dump_so_far run ≡ LegalDump (opening options.now boards.now) (replicate 21 None)) }
+        ensures reader { IfOk result (λ run. IsBefore run.vcd) }
         ensures going { IfOk result IsGoing }
         ensures limit { IfOk result (λ run. run.judge.options.now.limit ≡ options.now.limit) }
         ensures found { IfOk result (λ run. run.judge.found ≡ 0) }
@@ -64,6 +69,7 @@ impl<'a> Run<'a> {
         };
         let judge = Judge::new(alloc, options, boards)?;
         let state = LogState::new();
+        let ports = Ports::new();
         Ok(Run {
             judge,
             vcd,
@@ -71,7 +77,7 @@ impl<'a> Run<'a> {
             rejection: None,
             log: LogReader::new(),
             state,
-            ports: Ports::new(),
+            ports,
         })
     }
 
@@ -104,18 +110,8 @@ impl<'a> Run<'a> {
         }
     }
 
-    /// Takes the first bytes of a dump, with the blanks before them.
-    fn begin_dump(&mut self, bytes: &[u8]) -> Result<bool, AllocError> {
-        let place = bytes.iter().position(|byte| !is_space(*byte));
-        let (blanks, text) = bytes.split_at(place.unwrap_or(bytes.len()));
-        if !self.push_blanks(blanks)? {
-            return Ok(false);
-        }
-        self.push_dump_all(text)
-    }
-
     /// Takes blanks before the form is known, which are lines of either.
-    fn push_blanks(&mut self, bytes: &[u8]) -> Result<bool, AllocError>
+    pub(crate) fn push_blanks(&mut self, bytes: &[u8]) -> Result<bool, AllocError>
         ensures judges { IfOk result (λ _. Judges self.old self.new bytes.now) }
         ensures stays { IfOk result (λ _. StaysFound self.old self.new) }
         ensures stops { IfOk result (λ goes_on. goes_on ≡ false → IsOver (run_so_far self.new)) }
@@ -124,33 +120,6 @@ impl<'a> Run<'a> {
     {
         skip_blanks(&mut self.vcd, bytes);
         self.push_log_all(bytes)
-    }
-
-    /// Takes bytes of a dump.
-    fn push_dump_all(&mut self, bytes: &[u8]) -> Result<bool, AllocError> {
-        let mut rest = bytes;
-        // A step takes a byte at least.
-        for _step in 0..bytes.len() {
-            let [byte, tail @ ..] = rest else {
-                break;
-            };
-            match self.vcd.push_line(rest) {
-                Ok(None) => {}
-                Ok(Some((step, after))) => {
-                    if !self.take_step(step)? {
-                        return Ok(false);
-                    }
-                    rest = after;
-                    continue;
-                }
-                Err(fault) => return self.reject_dump(fault),
-            }
-            rest = tail;
-            if !self.push_dump(*byte)? {
-                return Ok(false);
-            }
-        }
-        Ok(true)
     }
 
     /// Takes bytes of a log.
@@ -168,40 +137,6 @@ impl<'a> Run<'a> {
             }
         }
         Ok(true)
-    }
-
-    /// Takes a byte of a dump.
-    #[inline]
-    fn push_dump(&mut self, byte: u8) -> Result<bool, AllocError> {
-        match self.vcd.push(byte) {
-            Ok(step) => self.take_step(step),
-            Err(fault) => self.reject_dump(fault),
-        }
-    }
-
-    /// Takes what a dump has completed.
-    #[inline]
-    fn take_step(&mut self, step: Step) -> Result<bool, AllocError> {
-        match step {
-            Step::More => Ok(true),
-            Step::Header => {
-                set_scope(&mut self.judge, &self.vcd.presence());
-                Ok(true)
-            }
-            Step::Sample => take_sample(&mut self.judge, &mut self.ports, &mut self.vcd),
-        }
-    }
-
-    /// Rejects a dump.
-    fn reject_dump(&mut self, fault: VcdFault) -> Result<bool, AllocError> {
-        if fault == VcdFault::Memory {
-            return Err(AllocError);
-        }
-        self.rejection = Some(Rejection {
-            why: Why::Dump(fault),
-            line: Some(self.vcd.line()),
-        });
-        Ok(false)
     }
 
     /// Takes a byte of a log.
@@ -313,29 +248,10 @@ impl<'a> Run<'a> {
             }
         }
     }
-
-    /// Ends a dump, whose last two times may still be open.
-    fn end_dump(&mut self) -> Result<(), AllocError> {
-        match self.vcd.end() {
-            Ok(Step::Sample) => {
-                if take_sample(&mut self.judge, &mut self.ports, &mut self.vcd)?
-                    && self.vcd.last_sample() == Step::Sample
-                {
-                    take_sample(&mut self.judge, &mut self.ports, &mut self.vcd)?;
-                }
-                Ok(())
-            }
-            Ok(_) => Ok(()),
-            Err(fault) => {
-                self.reject_dump(fault)?;
-                Ok(())
-            }
-        }
-    }
 }
 
 /// Whether a byte is a blank between the lines of a trace.
-fn is_space(byte: u8) -> bool
+pub(crate) fn is_space(byte: u8) -> bool
     ensures { result ≡ is_space byte }
 {
     matches!(byte, b' ' | b'\t' | b'\r' | b'\n')

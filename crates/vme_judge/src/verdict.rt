@@ -1,5 +1,7 @@
 //! The text of a verdict.
 ghost use Rattle.std.specs.Prelude.{◌≡◌, IfOk};
+ghost use Rattle.vme_judge.specs.DumpRuns.{dump_so_far};
+ghost use Rattle.vme_judge.specs.Dumps.{dump_status};
 ghost use Rattle.vme_judge.specs.Logs.{status_of};
 ghost use Rattle.vme_judge.specs.Runs.{run_so_far};
 
@@ -28,7 +30,8 @@ pub(crate) fn write_end(
     map: &LineMap,
     to: &mut String,
 ) -> Result<Status, AllocError>
-    ensures { IfOk result (λ status. status ≡ status_of (run_so_far run.now)) }
+    ensures log { IfOk result (λ status. status ≡ status_of (run_so_far run.now)) }
+    ensures dump { IfOk result (λ status. status ≡ dump_status (dump_so_far run.now)) }
 {
     let mut text = String::new(alloc);
     write_text(alloc, run, options, map, &mut text)?;
@@ -39,7 +42,8 @@ pub(crate) fn write_end(
 /// The verdict on what was read: something was found, nothing was judged, or the trace is legal.
 #[tactic(auto, unfolding(crate::specs::Runs::run_so_far, crate::specs::Standing::standing))]
 fn status_of(run: &Run<'_>) -> Status
-    ensures { result ≡ status_of (run_so_far run.now) }
+    ensures log { result ≡ status_of (run_so_far run.now) }
+    ensures dump { result ≡ dump_status (dump_so_far run.now) }
 {
     if run.rejection.is_some() {
         return Status::Rejected;

@@ -9,9 +9,9 @@ use Rattle.vme_vcd_reader.specs.declared.fault.VcdFault.{VcdFault}
 use Rattle.vme_vcd_reader.specs.declared.reader.Step.{Step}
 use Rattle.vme_vcd_reader.specs.declared.reader.VcdReader.{VcdReader}
 use Rattle.vme_vcd_reader.specs.declared.table.Row.{Row}
-use Rattle.vme_vcd_reader.specs.Bodies.{Reading, Shown, Samples, Broken, at_word, byte_taken, fact_taken, time_taken, samples_by, samples_of, ends_with}
-use Rattle.vme_vcd_reader.specs.Places.{Takes, Reports}
-use Rattle.vme_vcd_reader.specs.Readers.{IsBroken, IsReading, TakesRead, rows_of}
+use Rattle.vme_vcd_reader.specs.Bodies.{Reading, Shown, Broken, at_word, fact_taken, time_taken, samples_by, ends_with}
+use Rattle.vme_vcd_reader.specs.Places.{Takes}
+use Rattle.vme_vcd_reader.specs.Readers.{IsBroken, IsReading, TakesRead}
 use Rattle.vme_vcd_reader.specs.Words.{is_blank, Awaited, Fact, Silence, At, Change, word_says, blank_says, byte_says, NoWord}
 
 -- what a byte says, taken

@@ -1,5 +1,5 @@
 -- Characters and digits, one after another.
-use Rattle.std.proofs.Common.{◌≡◌, ◌≢◌, ◌⊎◌, inl, inr, ℕ, suc, ◌+◌, ◌-◌, ◌*◌, ◌^◌, ◌<◌, ◌≤◌, min, Bool, true, false, ◌==◌, ◌||◌, nat_le, nat_lt, List, [], ◌∷◌, ◌++◌, length, Option, Some, None, Result, Ok, Err, OnErr, refl, ap, sym, subst, ◌∙◌, arith, length-append, ne_eqb}
+use Rattle.std.proofs.Common.{◌≡◌, ◌≢◌, ℕ, suc, ◌+◌, ◌<◌, min, ◌==◌, List, [], ◌∷◌, ◌++◌, length, Option, Some, None, refl, ap, sym, ◌∙◌, arith, length-append, ne_eqb}
 use Rattle.std.specs.Prelude.{if◌then◌else◌}
 use Rattle.std.specs.Option.{option_map, option_and_then}
 use Rattle.std.proofs.lemmas.Bool.Decides.{nat_tests}
@@ -7,13 +7,10 @@ use Rattle.vme_vcd_reader.specs.declared.bits.Bits.{Bits}
 use Rattle.vme_vcd_reader.specs.declared.bits.Level.{Level}
 use Rattle.vme_vcd_reader.specs.declared.bits.Level.TheVariants as levels
 use Rattle.vme_vcd_reader.specs.declared.body.Body.{Body}
-use Rattle.vme_vcd_reader.specs.declared.body.Place.TheVariants as places
-use Rattle.vme_vcd_reader.specs.declared.body.Said.{Said}
-use Rattle.vme_vcd_reader.specs.declared.body.Said.TheVariants as said
 use Rattle.vme_vcd_reader.specs.Levels.{level_of, levels_of, with_level, with_levels, left_of, IsValue}
-use Rattle.vme_vcd_reader.specs.Names.{no_identifier, with_character, with_characters, identifier_of}
-use Rattle.vme_vcd_reader.specs.Places.{HasDigits, HasTime, HasName, HasOpened, IsAt, Reports, Takes}
-use Rattle.vme_vcd_reader.specs.Words.{is_blank, with_digit, number_from, Opening, Number, Vector, Skipped, Keyword, Scalar, opening, Awaited, Statement, Variable, Unread, Remark, Fact, Silence, At, Change, time_says, vector_says, change_says, opened_says, word_says, blank_says, byte_says, NoWord}
+use Rattle.vme_vcd_reader.specs.Names.{with_character, with_characters}
+use Rattle.vme_vcd_reader.specs.Places.{HasDigits, HasTime}
+use Rattle.vme_vcd_reader.specs.Words.{with_digit, number_from}
 
 -- an identifier with one more character
 pub characters_more : (cs : List ℕ) (n c : ℕ) → with_characters n (cs ++ c ∷ []) ≡ with_character (with_characters n cs) c

@@ -6,8 +6,9 @@ use Rattle.vme_vcd_reader.specs.declared.reader.Step.{Step}
 use Rattle.vme_vcd_reader.specs.declared.reader.Step.TheVariants as steps
 use Rattle.vme_vcd_reader.specs.declared.reader.VcdReader.{VcdReader}
 use Rattle.vme_vcd_reader.specs.declared.table.Row.{Row}
-use Rattle.vme_vcd_reader.specs.Bodies.{Reading, Shown, Sample, End, Broken, at_word, before, byte_taken, ends_with, fact_taken, last_of, shown_at, time_taken}
+use Rattle.vme_vcd_reader.specs.Bodies.{Reading, Shown, Sample, End, Broken, at_word, before, ends_with, fact_taken, last_of, shown_at, time_taken}
 use Rattle.vme_vcd_reader.specs.Places.{IsAt, may_end}
+use Rattle.vme_vcd_reader.specs.Ports.{without_changes}
 use Rattle.vme_vcd_reader.specs.Readers.{IsReading, ReportsLast, TakesRead, samples_left}
 use Rattle.vme_vcd_reader.specs.Words.{Awaited, Fact, Silence, At, Change, blank_says, word_says}
 use Rattle.vme_vcd_reader.proofs.Bodies.{ended, says_taken}
@@ -21,10 +22,13 @@ time_clear : (r : Reading) (last : Option ℕ) (time : ℕ) → r.word ≡ [] �
 time_clear r None time clear = clear
 time_clear r (Some last) time clear =
     elim (nat_lt time last) as (λ less. IsClear (if less then None else
-    (if time == last then Some (r, None) else Some (record r { time = Some time; changed = false }, Some (shown_at r last))))) [
+    (if time == last then Some (r, None) else Some (record r { time = Some time; lines = without_changes r.lines; changed = false }, Some (shown_at r last))))) [
       | true ↦ tt
       | false ↦ elim (time == last) as (λ same. IsClear
-          (if same then Some (r, None) else Some (record r { time = Some time; changed = false }, Some (shown_at r last)))) [ true ↦ clear | false ↦ clear ]
+          (if same then Some (r, None) else Some (
+            record r { time = Some time; lines = without_changes r.lines; changed = false },
+            Some (shown_at r last),
+          ))) [ true ↦ clear | false ↦ clear ]
     ]
 
 fact_clear : (rows : List Row) (r : Reading) (fact : Fact) → r.word ≡ [] → IsClear (fact_taken rows r fact)
@@ -41,12 +45,15 @@ blank_clear rows r awaited (c ∷ cs) =
     ]
 
 -- the last sample is what a reader has left
+abbrev sample_at : ℕ → BusLines → Bool → Shown
+sample_at time lines changed = record { time = time; lines = without_changes lines; changed = changed; ports = lines.changed_ports }
+
 left_by : (v : VcdReader) (lines : BusLines) (changed begun : Bool) → v.bus ≡ lines → changed ≡ v.is_changed
-    → (if begun then Sample (record { time = v.time; lines = lines; changed = changed }) End else End)
-    ≡ (if begun then Sample (record { time = v.time; lines = v.bus; changed = v.is_changed }) End else End)
+    → (if begun then Sample (sample_at v.time lines changed) End else End)
+    ≡ (if begun then Sample (sample_at v.time v.bus v.is_changed) End else End)
 left_by v lines changed begun at is =
-    ap (λ lines. if begun then Sample (record { time = v.time; lines = lines; changed = changed }) End else End) (sym at)
-    ∙ ap (λ changed. if begun then Sample (record { time = v.time; lines = v.bus; changed = changed }) End else End) is
+    ap (λ lines. if begun then Sample (sample_at v.time lines changed) End else End) (sym at)
+    ∙ ap (λ changed. if begun then Sample (sample_at v.time v.bus changed) End else End) is
 
 last_by : (r : Reading) (begun : Bool) (time : ℕ)
     → last_of r (if begun then Some time else None) ≡ (if begun then Sample (shown_at r time) End else End)

@@ -4,6 +4,9 @@ pub mod Names
 pub mod Words
 pub mod Tables
 pub mod Adding
+pub mod Headers
+pub mod Headings
+pub mod Ranges
 pub mod Bodies
 pub mod Ends
 pub mod Lines

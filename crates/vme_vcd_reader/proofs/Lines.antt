@@ -1,5 +1,5 @@
 -- Lines of a body that are read whole.
-use Rattle.std.proofs.Common.{◌≡◌, ◌≢◌, ◌⊎◌, inl, inr, ℕ, zero, suc, ◌+◌, ◌-◌, ◌*◌, ◌/◌, ◌%◌, ◌^◌, ◌<◌, ◌≤◌, Bool, true, false, ◌==◌, ◌||◌, List, [], ◌∷◌, ◌++◌, length, get_or, take, drop, Option, Some, None, refl, ap, sym, subst, ◌∙◌, arith, append_assoc, append-nil, add-one}
+use Rattle.std.proofs.Common.{◌≡◌, ◌≢◌, ◌⊎◌, inl, inr, ℕ, zero, suc, ◌+◌, ◌-◌, ◌*◌, ◌%◌, ◌^◌, ◌<◌, ◌≤◌, Bool, false, ◌||◌, List, [], ◌∷◌, ◌++◌, length, get_or, take, drop, Option, Some, None, refl, ap, sym, subst, ◌∙◌, arith, append_assoc, append-nil, add-one}
 use Rattle.std.specs.Prelude.{if◌then◌else◌, bit_or, IfSome}
 use Rattle.std.specs.Option.{option_map, option_and_then}
 use Rattle.std.proofs.Math.Seq.{take-suc}
@@ -12,15 +12,14 @@ use Rattle.vme_vcd_reader.specs.declared.bits.Level.TheVariants as levels
 use Rattle.vme_vcd_reader.specs.declared.bus.BusLines.{BusLines}
 use Rattle.vme_vcd_reader.specs.declared.quick.Quick.{Quick}
 use Rattle.vme_vcd_reader.specs.declared.table.Row.{Row}
-use Rattle.vme_vcd_reader.specs.Bodies.{Reading, Shown, byte_taken, time_taken}
-use Rattle.vme_vcd_reader.specs.Levels.{left_of, level_of, levels_of, put, value_of, with_level, with_levels}
+use Rattle.vme_vcd_reader.specs.Bodies.{Reading, Shown, byte_taken, samples_by, samples_of, time_taken}
+use Rattle.vme_vcd_reader.specs.Levels.{level_of, levels_of, put, value_of, with_levels}
 use Rattle.vme_vcd_reader.specs.Lines.{HasNoBlank, IsChangeLine, IsNameLine, IsTimeLine, between, bytes_taken, list_of, shown_first}
 use Rattle.vme_vcd_reader.specs.Names.{identifier_of, no_identifier, with_character}
 use Rattle.vme_vcd_reader.specs.Tables.{has_variable, variables_after}
-use Rattle.vme_vcd_reader.specs.Words.{Awaited, Statement, Variable, Fact, Silence, At, blank_says, is_blank, number_from, with_digit}
+use Rattle.vme_vcd_reader.specs.Words.{Awaited, Statement, Variable, Silence, At, blank_says, is_blank, number_from, with_digit}
 use Rattle.vme_vcd_reader.proofs.Bodies.{ended, reading, says_taken}
 use Rattle.vme_vcd_reader.proofs.Digits.{numbers_more}
-use Rattle.vme_vcd_reader.proofs.Names.{character_before}
 
 -- bytes after one that completes no sample
 abbrev then_bytes : List Row → List ℕ → Reading × Option Shown → Option (Reading × List Shown)
@@ -56,6 +55,16 @@ word_taken rows awaited word (b ∷ bs) more lines time changed whole =
     ∙ silent (bytes_taken rows (reading awaited (word ++ b ∷ []) lines time changed) (bs ++ more))
     ∙ word_taken rows awaited (word ++ b ∷ []) bs more lines time changed whole.1
     ∙ ap (λ word. bytes_taken rows (reading awaited word lines time changed) more) (append_assoc word (b ∷ []) bs)
+
+-- bytes within a word, and the samples of the text after them
+word_shown : (rows : List Row) (awaited : Awaited) (word bs more : List ℕ) (lines : BusLines) (time : Option ℕ) (changed : Bool) → HasNoBlank bs
+    → samples_of rows (reading awaited word lines time changed) (bs ++ more) ≡ samples_of rows (reading awaited (word ++ bs) lines time changed) more
+word_shown rows awaited word [] more lines time changed whole =
+    ap (λ word. samples_of rows (reading awaited word lines time changed) more) (sym (append-nil word))
+word_shown rows awaited word (b ∷ bs) more lines time changed whole =
+    ap (λ o. samples_by rows o (bs ++ more)) (within_taken rows awaited word b lines time changed whole.0)
+    ∙ word_shown rows awaited (word ++ b ∷ []) bs more lines time changed whole.1
+    ∙ ap (λ word. samples_of rows (reading awaited word lines time changed) more) (append_assoc word (b ∷ []) bs)
 
 -- after a change of a variable
 abbrev changed_by : List Row → ℕ → Bits → BusLines → Option ℕ → Bool → Option (Reading × List Shown)
@@ -281,6 +290,17 @@ time_taken_by rows d ds time lines before changed whole is =
     (says_taken rows (reading Statement (35 ∷ d ∷ ds) lines before changed) (ended (option_map (λ time. (Statement, At time)) o)))) is
     ∙ listed rows (time_taken (between lines before changed) before time)
 
+-- the samples of a text after it
+time_shown : (rows : List Row) (d : ℕ) (ds : List ℕ) (time : ℕ) (lines : BusLines) (before : Option ℕ) (changed : Bool) (more : List ℕ)
+    → HasNoBlank (d ∷ ds) → number_from 0 (d ∷ ds) ≡ Some time
+    → samples_of rows (between lines before changed) (((35 ∷ d ∷ ds) ++ 10 ∷ []) ++ more)
+    ≡ samples_by rows (time_taken (between lines before changed) before time) more
+time_shown rows d ds time lines before changed more whole is =
+    ap (samples_of rows (between lines before changed)) (append_assoc (35 ∷ d ∷ ds) (10 ∷ []) more)
+    ∙ word_shown rows Statement [] (35 ∷ d ∷ ds) (10 ∷ more) lines before changed (refl, whole)
+    ∙ ap (λ (o : Option ℕ). samples_by rows
+    (says_taken rows (reading Statement (35 ∷ d ∷ ds) lines before changed) (ended (option_map (λ time. (Statement, At time)) o))) more) is
+
 time_by : (digits rest text : List ℕ) (time : ℕ) → HasNoBlank digits → 0 < length digits → number_from 0 digits ≡ Some time
     → text ≡ 35 ∷ (digits ++ 10 ∷ rest) → IsTimeLine text rest time
 time_by [] rest text time whole some is at = absurd (omega arith)
@@ -289,6 +309,7 @@ time_by (d ∷ ds) rest text time whole some is at = record {
   text_is = at ∙ sym (append_assoc (35 ∷ d ∷ ds) (10 ∷ []) rest);
   some = omega arith;
   says = λ rows lines before changed. time_taken_by rows d ds time lines before changed whole is;
+  shows = λ rows lines before changed more. time_shown rows d ds time lines before changed more whole is;
 }
 
 pub time_line : (text digits rest : List ℕ) (k time : ℕ) → 1 ≤ length text → get_or text 0 0 ≡ 35

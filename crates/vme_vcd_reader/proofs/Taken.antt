@@ -1,5 +1,5 @@
 -- A reader takes a line at once as it takes its bytes.
-use Rattle.std.proofs.Common.{◌≡◌, ℕ, Bool, true, false, ◌||◌, List, [], ◌∷◌, ◌++◌, Option, Some, None, Result, Ok, Err, OnErr, refl, ap, sym, subst, ◌∙◌}
+use Rattle.std.proofs.Common.{◌≡◌, ℕ, ◌||◌, List, [], ◌∷◌, ◌++◌, append_assoc, Option, Some, None, refl, ap, sym, subst, ◌∙◌}
 use Rattle.std.specs.Option.{option_map, option_and_then}
 use Rattle.vme_vcd_reader.specs.declared.bits.Bits.{Bits}
 use Rattle.vme_vcd_reader.specs.declared.body.Body.{Body}
@@ -8,10 +8,10 @@ use Rattle.vme_vcd_reader.specs.declared.reader.Step.{Step}
 use Rattle.vme_vcd_reader.specs.declared.reader.Step.TheVariants as steps
 use Rattle.vme_vcd_reader.specs.declared.reader.VcdReader.{VcdReader}
 use Rattle.vme_vcd_reader.specs.declared.table.Row.{Row}
-use Rattle.vme_vcd_reader.specs.Bodies.{Reading, Shown, byte_taken, time_taken}
+use Rattle.vme_vcd_reader.specs.Bodies.{Reading, Shown, byte_taken, samples_by, samples_of, time_taken}
 use Rattle.vme_vcd_reader.specs.Lines.{IsChangeLine, IsTimeLine, between, bytes_taken, list_of, shown_first}
 use Rattle.vme_vcd_reader.specs.Places.{HasOpened, IsAt}
-use Rattle.vme_vcd_reader.specs.Readers.{IsReading, ReportsSample, TakesLine, TakesRead, rows_of}
+use Rattle.vme_vcd_reader.specs.Readers.{IsBrokenText, IsReading, ReportsSample, TakesLine, TakesRead, rows_of}
 use Rattle.vme_vcd_reader.specs.Tables.{has_variable, variables_after}
 use Rattle.vme_vcd_reader.specs.Words.{Awaited, Statement, Variable, Unread, Remark, Opening, Number, Vector, Skipped, Keyword, Scalar, opening}
 use Rattle.vme_vcd_reader.proofs.Bodies.{reading}
@@ -107,24 +107,19 @@ pub line_times : (r : Reading) (v u : VcdReader) (text rest : List ℕ) (time : 
 line_times r v u text rest time step n is place line takes =
     times_by (rows_of v) r u text rest time step n (time_taken r r.time time) line (line_says (rows_of v) r v text rest time is place line) takes
 
+-- the samples of a text after a time
+line_shows : (rows : List Row) (r : Reading) (v : VcdReader) (text rest : List ℕ) (time : ℕ) → IsReading r v → v.body.place ≡ places.Gap
+    → (line : IsTimeLine text rest time) (more : List ℕ) → samples_of rows r (line.line ++ more) ≡ samples_by rows (time_taken r r.time time) more
+line_shows rows r v text rest time is place line more =
+    let same : r ≡ between r.lines r.time r.changed = is_between r v is place in
+    ap (λ r. samples_of rows r (line.line ++ more)) same ∙ line.shows rows r.lines r.time r.changed more
+    ∙ ap (λ (q : Reading). samples_by rows (time_taken q r.time time) more) (sym same)
+
 -- a time that falls
-none_map : (shown : Option Shown) (o : Option (Reading × List Shown)) → option_map (shown_first shown) o ≡ None → o ≡ None
-none_map shown None is = refl
-none_map shown (Some more) is = absurd (cc)
-
-none_more : (rows : List Row) (r : Reading) (line rest : List ℕ) → bytes_taken rows r line ≡ None → bytes_taken rows r (line ++ rest) ≡ None
-none_more rows r [] rest is = absurd (cc)
-none_more rows r (b ∷ bs) rest is =
-    (elim (byte_taken rows r b) as (λ o.
-    option_and_then (λ (taken : Reading × Option Shown). option_map (shown_first taken.1) (bytes_taken rows taken.0 bs)) o ≡ None
-    → option_and_then (λ (taken : Reading × Option Shown). option_map (shown_first taken.1) (bytes_taken rows taken.0 (bs ++ rest))) o ≡ None) [
-      | None ↦ λ none. refl
-      | Some taken ↦ λ none. ap (option_map (shown_first taken.1))
-          (none_more rows taken.0 bs rest (none_map taken.1 (bytes_taken rows taken.0 bs) none))
-    ]) is
-
 pub line_falls : (r : Reading) (v : VcdReader) (text rest : List ℕ) (time : ℕ) → IsReading r v → v.body.place ≡ places.Gap → IsTimeLine text rest time
-    → time_taken r r.time time ≡ None → bytes_taken (rows_of v) r text ≡ None
-line_falls r v text rest time is place line falls =
-    ap (bytes_taken (rows_of v) r) line.text_is
-    ∙ none_more (rows_of v) r line.line rest (line_says (rows_of v) r v text rest time is place line ∙ ap listed falls)
+    → time_taken r r.time time ≡ None → IsBrokenText (rows_of v) r text
+line_falls r v text rest time is place line falls = λ more.
+    ap (λ text. samples_of (rows_of v) r (text ++ more)) line.text_is
+    ∙ ap (samples_of (rows_of v) r) (append_assoc line.line rest more)
+    ∙ line_shows (rows_of v) r v text rest time is place line (rest ++ more)
+    ∙ ap (λ o. samples_by (rows_of v) o (rest ++ more)) falls

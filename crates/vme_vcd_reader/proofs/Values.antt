@@ -1,7 +1,7 @@
 -- The bits of a value whose first level goes on to the left.
-use Rattle.std.proofs.Common.{◌≡◌, ℕ, suc, ◌+◌, ◌-◌, ◌*◌, ◌/◌, ◌%◌, ◌^◌, ◌<◌, ◌≤◌, min, List, [], ◌∷◌, length, refl, ap, sym, ◌∙◌, ◌⊎◌, inl, inr, arith}
+use Rattle.std.proofs.Common.{◌≡◌, ℕ, suc, ◌+◌, ◌-◌, ◌*◌, ◌%◌, ◌^◌, ◌<◌, ◌≤◌, min, List, [], ◌∷◌, length, ap, sym, ◌∙◌, ◌⊎◌, inl, inr, arith}
 use Rattle.std.proofs.Math.Nat.{pow-suc}
-use Rattle.std.proofs.lemmas.Nat.{pow-add, mod_below}
+use Rattle.std.proofs.lemmas.Nat.{pow-add}
 use Rattle.vme_vcd_reader.specs.declared.bits.Bits.{Bits}
 use Rattle.vme_vcd_reader.specs.declared.bits.Level.{Level}
 use Rattle.vme_vcd_reader.specs.declared.bits.Level.TheVariants.{Low, High, Free, Undefined}

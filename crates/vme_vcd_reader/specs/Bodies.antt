@@ -1,12 +1,13 @@
 -- The samples of a dump's body, by its text and the variables that are mapped.
-use Rattle.std.specs.Prelude.{◌≡◌, ℕ, nat_lt, Bool, true, false, ◌==◌, ◌||◌, if◌then◌else◌, List, [], ◌∷◌, Option, Some, None}
+use Rattle.std.specs.Prelude.{ℕ, nat_lt, Bool, false, ◌==◌, ◌||◌, if◌then◌else◌, List, [], ◌∷◌, Option, Some, None}
 use Rattle.std.specs.Option.{option_and_then}
 use Rattle.vme_vcd_reader.specs.declared.bus.BusLines.{BusLines}
 use Rattle.vme_vcd_reader.specs.declared.table.Row.{Row}
 use Rattle.vme_vcd_reader.specs.Levels.{value_of}
 use Rattle.vme_vcd_reader.specs.Places.{may_end}
+use Rattle.vme_vcd_reader.specs.Ports.{without_changes}
 use Rattle.vme_vcd_reader.specs.Tables.{has_variable, variables_after}
-use Rattle.vme_vcd_reader.specs.Words.{Awaited, Statement, Fact, Silence, At, Change, byte_says}
+use Rattle.vme_vcd_reader.specs.Words.{Awaited, Fact, Silence, At, Change, byte_says}
 
 -- a body as far as it is read: the begin of a word and what it may be, the lines of the bus, the time whose changes are
 -- read, if there is one, and whether a mapped variable has changed since the sample before
@@ -17,22 +18,27 @@ pub record Reading : Type 0 where
   pub time : Option ℕ
   pub changed : Bool
 
--- a sample: the lines of the bus after all changes of a time, and whether a mapped variable has changed
+-- a sample: the lines of the bus after all changes of a time, whether a mapped variable has changed, and the slots whose local
+-- ports have a change
 pub record Shown : Type 0 where
   pub time : ℕ
   pub lines : BusLines
   pub changed : Bool
+  pub ports : ℕ
 
 -- the sample of a time
 abbrev pub shown_at : Reading → ℕ → Shown
-shown_at r time = record { time = time; lines = r.lines; changed = r.changed }
+shown_at r time = record { time = time; lines = without_changes r.lines; changed = r.changed; ports = r.lines.changed_ports }
 
 -- a time: the first one; one that repeats the one before it; a later one, which completes that one's sample; none that falls
 abbrev pub time_taken : Reading → Option ℕ → ℕ → Option (Reading × Option Shown)
 time_taken r None time = Some (record r { time = Some time }, None)
 time_taken r (Some before) time =
     if nat_lt time before then None else
-    (if time == before then Some (r, None) else Some (record r { time = Some time; changed = false }, Some (shown_at r before)))
+    (if time == before then Some (r, None) else Some (
+      record r { time = Some time; lines = without_changes r.lines; changed = false },
+      Some (shown_at r before),
+    ))
 
 -- what a word says, taken: a change is one of all variables with the identifier
 abbrev pub fact_taken : List Row → Reading → Fact → Option (Reading × Option Shown)

@@ -10,4 +10,7 @@ pub mod Bodies
 pub mod Openings
 pub mod Lines
 pub mod Faults
+pub mod Headers
+pub mod Headings
+pub mod Ranges
 pub mod Readers

@@ -1,10 +1,10 @@
 -- Bytes of a dump's body one after another, and lines that stand whole at the start of a text, between two words.
-use Rattle.std.specs.Prelude.{◌≡◌, ℕ, ◌<◌, ◌⊎◌, Bool, false, ◌||◌, List, [], ◌∷◌, ◌++◌, length, Option, Some, None}
+use Rattle.std.specs.Prelude.{◌≡◌, ℕ, ◌<◌, Bool, false, ◌||◌, List, [], ◌∷◌, ◌++◌, length, Option, Some, None}
 use Rattle.std.specs.Option.{option_map, option_and_then}
 use Rattle.vme_vcd_reader.specs.declared.bits.Bits.{Bits}
 use Rattle.vme_vcd_reader.specs.declared.bus.BusLines.{BusLines}
 use Rattle.vme_vcd_reader.specs.declared.table.Row.{Row}
-use Rattle.vme_vcd_reader.specs.Bodies.{Reading, Shown, byte_taken, time_taken}
+use Rattle.vme_vcd_reader.specs.Bodies.{Reading, Shown, byte_taken, samples_by, samples_of, time_taken}
 use Rattle.vme_vcd_reader.specs.Names.{identifier_of}
 use Rattle.vme_vcd_reader.specs.Tables.{has_variable, variables_after}
 use Rattle.vme_vcd_reader.specs.Words.{Statement, is_blank}
@@ -46,6 +46,9 @@ pub record IsTimeLine (text rest : List ℕ) (time : ℕ) : Type 0 where
   pub says : (rows : List Row) (lines : BusLines) (before : Option ℕ) (changed : Bool)
       → bytes_taken rows (between lines before changed) line
       ≡ option_map (λ taken. (taken.0, list_of taken.1)) (time_taken (between lines before changed) before time)
+  pub shows : (rows : List Row) (lines : BusLines) (before : Option ℕ) (changed : Bool) (more : List ℕ)
+      → samples_of rows (between lines before changed) (line ++ more)
+      ≡ samples_by rows (time_taken (between lines before changed) before time) more
 
 -- no byte is a blank
 abbrev pub HasNoBlank : List ℕ → Type 0

@@ -1,5 +1,5 @@
 -- What is known before the first change of a dump.
-use Rattle.std.specs.Prelude.{ℕ, ◌-◌, ◌^◌, Bool, true, false, List, [], replicate, None}
+use Rattle.std.specs.Prelude.{◌-◌, ◌^◌, Bool, true, false, [], replicate, None}
 use Rattle.vme_protocol.specs.declared.sample.Sample.{Sample}
 use Rattle.vme_vcd_reader.specs.declared.bus.BusLines.{BusLines}
 use Rattle.vme_vcd_reader.specs.Bodies.{Reading}

@@ -1,13 +1,16 @@
 -- How a reader remembers a dump.
-use Rattle.std.specs.Prelude.{◌≡◌, ℕ, Bool, true, false, if◌then◌else◌, List, [], ◌∷◌, ◌++◌, ◌<◌, length, Option, Some, None}
+use Rattle.std.specs.Prelude.{◌≡◌, ℕ, true, false, if◌then◌else◌, List, [], ◌∷◌, ◌++◌, ◌<◌, length, Option, Some, None}
 use Rattle.vme_vcd_reader.specs.declared.reader.Step.{Step}
 use Rattle.vme_vcd_reader.specs.declared.reader.Step.TheVariants as steps
 use Rattle.vme_vcd_reader.specs.declared.reader.VcdReader.{VcdReader}
 use Rattle.vme_vcd_reader.specs.declared.table.Row.{Row}
 use Rattle.vme_vcd_reader.specs.Bodies.{Reading, Shown, Samples, Sample, End, Broken, samples_of}
+use Rattle.vme_vcd_reader.specs.Headers.{Outcome, Goes, Declares, Ends, Rejects}
+use Rattle.vme_vcd_reader.specs.Headings.{IsHeading}
 use Rattle.vme_vcd_reader.specs.Lines.{bytes_taken, list_of}
 use Rattle.vme_vcd_reader.specs.Openings.{opening_of, resting}
 use Rattle.vme_vcd_reader.specs.Places.{IsAt}
+use Rattle.vme_vcd_reader.specs.Ports.{without_changes}
 use Rattle.vme_vcd_reader.specs.Tables.{IsLinked}
 use Rattle.vme_vcd_reader.specs.Words.{Statement}
 
@@ -44,11 +47,19 @@ Enters steps.More v = IsBefore v
 Enters steps.Header v = IsReading (opening_of v.presence.busy) v
 Enters steps.Sample v = ⊥
 
+-- a reader has taken a byte of the header, and goes on with the header or has read it whole
+abbrev pub TakesHeading : Outcome → Step → VcdReader → Type 0
+TakesHeading (Goes h) step v = (step ≡ steps.More) × IsHeading h v.header × (v.is_body ≡ false)
+TakesHeading (Declares h) step v = (step ≡ steps.More) × IsHeading h v.header × (v.is_body ≡ false)
+TakesHeading Ends step v = step ≡ steps.Header
+TakesHeading (Rejects fault) step v = ⊥
+
 -- a reader reports a sample, or none
 abbrev pub ReportsSample : Option Shown → Step → VcdReader → Type 0
 ReportsSample None step v = step ≡ steps.More
 ReportsSample (Some shown) step v =
     (step ≡ steps.Sample) × (v.sample_time ≡ shown.time) × (v.bus ≡ shown.lines) × (v.sample_is_changed ≡ shown.changed)
+    × (v.sample_ports ≡ shown.ports)
 
 -- a reader has taken what was read, and reports the sample that it completes
 abbrev pub TakesRead : Option (Reading × Option Shown) → Step → VcdReader → Type 0
@@ -71,9 +82,16 @@ pub record TakesLine (rows : List Row) (r : Reading) (text rest : List ℕ) (ste
 abbrev pub IsBroken : List Row → Reading → ℕ → Type 0
 IsBroken rows r b = (rest : List ℕ) → samples_of rows r (b ∷ rest) ≡ Broken
 
+-- no body goes on with a text, whatever follows, and it has no further sample
+abbrev pub IsBrokenText : List Row → Reading → List ℕ → Type 0
+IsBrokenText rows r text = (rest : List ℕ) → samples_of rows r (text ++ rest) ≡ Broken
+
 -- the samples that are left at the end of a text: that of the time whose changes are read
 abbrev pub samples_left : VcdReader → Samples
-samples_left v = if v.is_begun then Sample (record { time = v.time; lines = v.bus; changed = v.is_changed }) End else End
+samples_left v =
+    if v.is_begun
+    then Sample (record { time = v.time; lines = without_changes v.bus; changed = v.is_changed; ports = v.bus.changed_ports }) End
+    else End
 
 -- a reader reports the first of the last samples of a text, if there is one, and has the others left
 abbrev pub ReportsLast : Samples → Step → VcdReader → Type 0

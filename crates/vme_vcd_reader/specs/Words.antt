@@ -1,5 +1,5 @@
 -- The words of a dump's body, and what each of them says after those before it: IEEE 1364-2005, clause 18.2.
-use Rattle.std.specs.Prelude.{◌≡◌, ℕ, ◌+◌, ◌-◌, ◌*◌, ◌^◌, nat_le, nat_lt, Bool, true, false, ◌==◌, ◌&&◌, ◌||◌, if◌then◌else◌, List, [], ◌∷◌, ◌++◌, length, codes, Option, Some, None}
+use Rattle.std.specs.Prelude.{◌≡◌, ℕ, ◌+◌, ◌-◌, ◌*◌, ◌^◌, nat_le, nat_lt, Bool, true, false, ◌==◌, ◌&&◌, ◌||◌, if◌then◌else◌, List, [], ◌∷◌, ◌++◌, codes, Option, Some, None}
 use Rattle.std.specs.Option.{option_map, option_and_then}
 use Rattle.vme_vcd_reader.specs.declared.bits.Level.{Level}
 use Rattle.vme_vcd_reader.specs.Levels.{level_of, levels_of}

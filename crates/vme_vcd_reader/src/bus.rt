@@ -3,7 +3,7 @@ ghost use Rattle.std.specs.Prelude.{◌≡◌};
 ghost use Rattle.vme_vcd_reader.specs.Buses.{after_change, any_of, bus_after, defined_lane, defined_lanes, level_set, level_sets, port_after, port_changed, sample_lines, sample_of, showing, slot_after, with_slot};
 ghost use Rattle.vme_vcd_reader.specs.Changes.{level_after, undefined_after};
 ghost use Rattle.vme_vcd_reader.specs.Openings.{resting};
-ghost use Rattle.vme_vcd_reader.specs.Ports.{port_in};
+ghost use Rattle.vme_vcd_reader.specs.Ports.{port_in, without_changes};
 ghost use Rattle.vme_line_map.specs.declared.group.Group.TheVariants.{Modifier};
 
 use crate::bits::Bits;
@@ -218,9 +218,9 @@ impl BusLines {
     }
 
     /// Returns the slots whose ports have changed since the last call.
-    pub fn take_changed_ports(&mut self) -> u32
+    pub(crate) fn take_changed_ports(&mut self) -> u32
         ensures slots { result ≡ self.old.changed_ports }
-        ensures none { self.new ≡ record self.old { changed_ports = 0 } }
+        ensures none { self.new ≡ without_changes self.old }
     {
         let changed = self.changed_ports;
         self.changed_ports = 0;

@@ -1,4 +1,7 @@
 //! Why a text is no dump in which the lines of a bus can be read.
+ghost use Rattle.std.specs.Prelude.{◌≡◌};
+ghost use Rattle.vme_vcd_reader.specs.declared.fault.VcdFault.TheVariants.{Memory};
+
 use std::alloc::{AllocError, AllocFailed};
 
 /// Why a text is no dump in which the lines of a bus can be read. A number is the index of a wanted
@@ -82,12 +85,16 @@ impl VcdFault {
 }
 
 impl From<AllocError> for VcdFault {
+    ghost from_gives = { λ _ fault. fault ≡ Memory };
+
     fn from(_error: AllocError) -> VcdFault {
         VcdFault::Memory
     }
 }
 
 impl<T: Drop> From<AllocFailed<T>> for VcdFault {
+    ghost from_gives = { λ _ fault. fault ≡ Memory };
+
     fn from(_error: AllocFailed<T>) -> VcdFault {
         VcdFault::Memory
     }

@@ -1,12 +1,11 @@
 //! The header of a dump, word by word.
-ghost use Rattle.std.specs.Prelude.{◌≡◌, [], IfOk};
-ghost use Rattle.vme_vcd_reader.specs.Tables.{IsLinked};
+ghost use Rattle.std.specs.Prelude.{◌≡◌, false, ◌&&◌, IfOk, IfErr};
+ghost use Rattle.vme_vcd_reader.specs.Headers.{Heading, after_keyword, beginning, byte_read, end_read, fault_of, is_long, is_read, keyword_read, other_read, scope_ended, scope_opened, variable_ended, word_read};
+ghost use Rattle.vme_vcd_reader.specs.Headings.{IsHeading, Reads, ReadsByte};
 
 use crate::fault::VcdFault;
 use crate::identifier::{NO_IDENTIFIER, identifier_of};
 use crate::matching::Matching;
-use crate::presence::Presence;
-use crate::table::Table;
 use crate::variable::{named_variable, number};
 use crate::word::{Word, is_blank};
 use arrayvec::ArrayVec;
@@ -47,19 +46,50 @@ pub(crate) struct Header {
     size: u16,
     identifier: u64,
     name: Word,
-    matching: Matching,
 }
 
-/// Whether the header goes on.
+/// What a byte completes.
 #[derive(Clone, Copy, Debug, PartialEq, Eq)]
 pub(crate) enum Progress {
+    /// Nothing.
     More,
+    /// A variable, which `map_variable` maps.
+    Variable,
+    /// The header.
     Ended,
+}
+
+impl Next {
+    /// Returns whether the word is read.
+    fn is_read(self) -> bool
+        ensures { result ≡ is_read self }
+    {
+        !matches!(self, Next::Skipped | Next::VariableKind)
+    }
+}
+
+/// Returns what the word after a keyword is, but for `$upscope`.
+fn after_keyword(word: &[u8]) -> Option<Next>
+    ensures { result ≡ after_keyword word.now }
+{
+    if word == b"$scope".as_slice() {
+        Some(Next::ScopeKind)
+    } else if word == b"$var".as_slice() {
+        Some(Next::VariableKind)
+    } else if word == b"$enddefinitions".as_slice() {
+        Some(Next::HeaderEnd)
+    } else if word.first() == Some(&b'$') {
+        Some(Next::Skipped)
+    } else {
+        None
+    }
 }
 
 impl Header {
     /// Returns the header before its first byte.
-    pub(crate) fn new(alloc: Global) -> Header {
+    pub(crate) fn new(alloc: Global) -> Header
+        ensures { IsHeading beginning result }
+    {
         Header {
             word: Word::new(),
             next: Next::Keyword,
@@ -69,17 +99,15 @@ impl Header {
             size: 0,
             identifier: 0,
             name: Word::new(),
-            matching: Matching::new(alloc),
         }
     }
 
-    /// Allocates an entry for each wanted variable.
-    pub(crate) fn begin(&mut self, map: &LineMap) -> Result<(), VcdFault> {
-        self.matching.begin(map)
-    }
-
     /// Takes a byte.
-    pub(crate) fn push(&mut self, map: &LineMap, byte: u8) -> Result<Progress, VcdFault> {
+    pub(crate) fn push(&mut self, byte: u8) -> Result<Progress, VcdFault>
+        ensures says { (h : Heading) → IsHeading h self.old →
+            IfOk result (λ progress. ReadsByte (byte_read h byte) progress self.new) }
+        ensures why { (h : Heading) → IsHeading h self.old → IfErr result (λ fault. fault ≡ fault_of (byte_read h byte)) }
+    {
         if !is_blank(byte) {
             self.word.push(byte);
             return Ok(Progress::More);
@@ -87,41 +115,59 @@ impl Header {
         if self.word.is_empty() {
             return Ok(Progress::More);
         }
-        let progress = self.take_word(map)?;
+        let progress = self.take_word()?;
         self.word.clear();
         Ok(progress)
     }
 
-    /// Returns which lines the dump has, with the variables that are mapped.
-    pub(crate) fn end(&self, map: &LineMap, table: &mut Table) -> Result<Presence, VcdFault>
-        ensures { table.old.rows.items ≡ [] → table.old.heads.items ≡ [] →
-            IfOk result (λ _. IsLinked table.new.rows.items table.new.heads.items) }
-    {
-        self.matching.end(map, table)
-    }
-
     /// Takes a word.
-    fn take_word(&mut self, map: &LineMap) -> Result<Progress, VcdFault> {
-        let is_end = self.word.bytes() == b"$end".as_slice();
-        if self.word.is_cut() && self.next != Next::Skipped && self.next != Next::VariableKind {
+    fn take_word(&mut self) -> Result<Progress, VcdFault>
+        ensures says { (h : Heading) → IsHeading h self.old →
+            IfOk result (λ progress. Reads (word_read h) progress self.new) }
+        ensures why { (h : Heading) → IsHeading h self.old → IfErr result (λ fault. fault ≡ fault_of (word_read h)) }
+    {
+        if self.word.is_cut() && self.next.is_read() {
             return Err(VcdFault::WordTooLong);
         }
+        if self.word.bytes() == b"$end".as_slice() {
+            return self.take_end();
+        }
+        self.take_other()
+    }
+
+    /// Takes `$end`.
+    fn take_end(&mut self) -> Result<Progress, VcdFault>
+        ensures says { (h : Heading) → IsHeading h self.old →
+            IfOk result (λ progress. Reads (end_read h h.next) progress self.new) }
+        ensures why { (h : Heading) → IsHeading h self.old → IfErr result (λ fault. fault ≡ fault_of (end_read h h.next)) }
+    {
         match self.next {
-            Next::Keyword => self.keyword()?,
-            Next::Skipped if is_end => self.next = Next::Keyword,
+            Next::Keyword => self.next = Next::Skipped,
+            Next::Skipped => self.next = Next::Keyword,
+            Next::HeaderEnd => return Ok(Progress::Ended),
+            Next::Name => return self.end_variable(),
+            Next::ScopeKind
+            | Next::ScopeName
+            | Next::VariableKind
+            | Next::Size
+            | Next::Identifier => return Err(VcdFault::BadVariable),
+        }
+        Ok(Progress::More)
+    }
+
+    /// Takes a word other than `$end`.
+    fn take_other(&mut self) -> Result<Progress, VcdFault>
+        ensures says { (h : Heading) → IsHeading h self.old → (is_long h.word && is_read h.next) ≡ false →
+            IfOk result (λ progress. Reads (other_read h h.next) progress self.new) }
+        ensures why { (h : Heading) → IsHeading h self.old → (is_long h.word && is_read h.next) ≡ false →
+            IfErr result (λ fault. fault ≡ fault_of (other_read h h.next)) }
+    {
+        match self.next {
+            Next::Keyword => return self.take_keyword(),
             Next::Skipped => {}
-            Next::HeaderEnd if is_end => return Ok(Progress::Ended),
             Next::HeaderEnd => return Err(VcdFault::NoKeyword),
-            Next::Name if is_end => {
-                self.take_variable(map)?;
-                self.next = Next::Keyword;
-            }
-            _ if is_end => return Err(VcdFault::BadVariable),
             Next::ScopeKind => self.next = Next::ScopeName,
-            Next::ScopeName => {
-                self.open_scope()?;
-                self.next = Next::Skipped;
-            }
+            Next::ScopeName => return self.open_scope(),
             Next::VariableKind => self.next = Next::Size,
             Next::Size => {
                 // A size that is no number below 65536 is that of no line.
@@ -133,36 +179,49 @@ impl Header {
                 self.name.clear();
                 self.next = Next::Name;
             }
-            Next::Name => {
-                for byte in self.word.bytes() {
-                    self.name.push(*byte);
-                }
-            }
+            Next::Name => self.name.append(self.word.bytes()),
         }
         Ok(Progress::More)
     }
 
     /// Takes a keyword.
-    fn keyword(&mut self) -> Result<(), VcdFault> {
-        self.next = match self.word.bytes() {
-            b"$scope" => Next::ScopeKind,
-            b"$var" => Next::VariableKind,
-            b"$enddefinitions" => Next::HeaderEnd,
-            b"$upscope" => {
-                let Some(length) = self.lengths.pop() else {
-                    return Err(VcdFault::NoScope);
-                };
-                self.path.truncate(length);
-                Next::Skipped
-            }
-            [b'$', ..] => Next::Skipped,
-            _ => return Err(VcdFault::NoKeyword),
+    fn take_keyword(&mut self) -> Result<Progress, VcdFault>
+        ensures says { (h : Heading) → IsHeading h self.old → is_long h.word ≡ false →
+            IfOk result (λ progress. Reads (keyword_read h) progress self.new) }
+        ensures why { (h : Heading) → IsHeading h self.old → is_long h.word ≡ false →
+            IfErr result (λ fault. fault ≡ fault_of (keyword_read h)) }
+    {
+        if self.word.bytes() == b"$upscope".as_slice() {
+            return self.end_scope();
+        }
+        let Some(next) = after_keyword(self.word.bytes()) else {
+            return Err(VcdFault::NoKeyword);
         };
-        Ok(())
+        self.next = next;
+        Ok(Progress::More)
+    }
+
+    /// Ends the innermost scope.
+    fn end_scope(&mut self) -> Result<Progress, VcdFault>
+        ensures says { (h : Heading) → IsHeading h self.old →
+            IfOk result (λ progress. Reads (scope_ended h h.scopes) progress self.new) }
+        ensures why { (h : Heading) → IsHeading h self.old → IfErr result (λ fault. fault ≡ fault_of (scope_ended h h.scopes)) }
+    {
+        let Some(length) = self.lengths.pop() else {
+            return Err(VcdFault::NoScope);
+        };
+        self.path.truncate(length);
+        self.next = Next::Skipped;
+        Ok(Progress::More)
     }
 
     /// Opens the scope that the word names.
-    fn open_scope(&mut self) -> Result<(), VcdFault> {
+    fn open_scope(&mut self) -> Result<Progress, VcdFault>
+        ensures says { (h : Heading) → IsHeading h self.old → is_long h.word ≡ false →
+            IfOk result (λ progress. Reads (scope_opened h) progress self.new) }
+        ensures why { (h : Heading) → IsHeading h self.old → is_long h.word ≡ false →
+            IfErr result (λ fault. fault ≡ fault_of (scope_opened h)) }
+    {
         if self.lengths.is_full() {
             return Err(VcdFault::ScopesTooDeep);
         }
@@ -170,24 +229,41 @@ impl Header {
         self.path.extend_from_slice(self.word.bytes())?;
         self.path.push(b'.')?;
         self.scopes = self.scopes.saturating_add(1);
-        Ok(())
+        self.next = Next::Skipped;
+        Ok(Progress::More)
     }
 
-    /// Takes the variable whose words were read.
-    fn take_variable(&mut self, map: &LineMap) -> Result<(), VcdFault> {
+    /// Ends a variable.
+    fn end_variable(&mut self) -> Result<Progress, VcdFault>
+        ensures says { (h : Heading) → IsHeading h self.old →
+            IfOk result (λ progress. Reads (variable_ended h) progress self.new) }
+        ensures why { (h : Heading) → IsHeading h self.old → IfErr result (λ fault. fault ≡ fault_of (variable_ended h)) }
+    {
         if self.name.is_cut() {
             return Err(VcdFault::WordTooLong);
         }
         if self.name.is_empty() {
             return Err(VcdFault::BadVariable);
         }
+        self.next = Next::Keyword;
         if self.identifier == NO_IDENTIFIER {
-            return Ok(());
+            return Ok(Progress::More);
         }
+        Ok(Progress::Variable)
+    }
+
+    /// Maps the variable that was declared.
+    pub(crate) fn map_variable(
+        &mut self,
+        map: &LineMap,
+        matching: &mut Matching,
+    ) -> Result<(), VcdFault>
+        ensures { (h : Heading) → IsHeading h self.old → IfOk result (λ _. IsHeading h self.new) }
+    {
         let found = named_variable(&self.name, self.size);
         let length = self.path.len();
         self.path.extend_from_slice(found.name)?;
-        let taken = self.matching.take(
+        let taken = matching.take(
             map,
             self.path.as_slice(),
             self.scopes,

@@ -3,11 +3,14 @@ ghost use Rattle.std.specs.Prelude.{◌≡◌, ◌||◌, List, [], true, false, 
 ghost use Rattle.vme_vcd_reader.specs.declared.bits.Level.{Level};
 ghost use Rattle.vme_vcd_reader.specs.declared.body.Place.TheVariants.{Gap};
 ghost use Rattle.vme_vcd_reader.specs.Bodies.{Reading, Broken, End, byte_taken, samples_of, time_taken};
+ghost use Rattle.vme_vcd_reader.specs.declared.fault.VcdFault.{VcdFault};
 ghost use Rattle.vme_vcd_reader.specs.declared.fault.VcdFault.TheVariants.{TimeFalls};
 ghost use Rattle.vme_vcd_reader.specs.Faults.{byte_fault, end_fault};
+ghost use Rattle.vme_vcd_reader.specs.Headers.{Heading, Rejects, beginning, byte_read};
+ghost use Rattle.vme_vcd_reader.specs.Headings.{IsHeading};
 ghost use Rattle.vme_vcd_reader.specs.Levels.{IsValue, value_of};
-ghost use Rattle.vme_vcd_reader.specs.Lines.{bytes_taken};
-ghost use Rattle.vme_vcd_reader.specs.Readers.{Enters, IsBefore, IsBroken, IsReading, ReportsLast, TakesLine, TakesRead, rows_of, samples_left};
+ghost use Rattle.vme_vcd_reader.specs.Ports.{without_changes};
+ghost use Rattle.vme_vcd_reader.specs.Readers.{Enters, IsBefore, IsBroken, IsBrokenText, IsReading, ReportsLast, TakesHeading, TakesLine, TakesRead, rows_of, samples_left};
 ghost use Rattle.vme_vcd_reader.specs.Tables.{IsLinked, has_variable, variables_after};
 ghost use Rattle.vme_vcd_reader.specs.Words.{is_blank};
 
@@ -16,6 +19,7 @@ use crate::body::{Body, Said};
 use crate::bus::BusLines;
 use crate::fault::VcdFault;
 use crate::header::{Header, Progress};
+use crate::matching::Matching;
 use crate::presence::Presence;
 use crate::quick::{quick_change, quick_time};
 use crate::table::Table;
@@ -38,6 +42,7 @@ pub enum Step {
 pub struct VcdReader<'a> {
     map: &'a LineMap,
     header: Header,
+    matching: Matching,
     table: Table,
     body: Body,
     bus: BusLines,
@@ -55,6 +60,8 @@ pub struct VcdReader<'a> {
     /// Whether a mapped variable changed since the sample before, and before that sample.
     is_changed: bool,
     sample_is_changed: bool,
+    /// The slots whose local ports changed before that sample.
+    sample_ports: u32,
 }
 
 impl<'a> VcdReader<'a> {
@@ -64,13 +71,15 @@ impl<'a> VcdReader<'a> {
     ///
     /// An allocation failed.
     pub fn new(alloc: Global, map: &'a LineMap) -> Result<VcdReader<'a>, VcdFault>
-        ensures { IfOk result IsBefore }
+        ensures before { IfOk result IsBefore }
+        ensures heading { IfOk result (λ v. IsHeading beginning v.header) }
     {
-        let mut header = Header::new(alloc);
-        header.begin(map)?;
+        let mut matching = Matching::new(alloc);
+        matching.begin(map)?;
         Ok(VcdReader {
             map,
-            header,
+            header: Header::new(alloc),
+            matching,
             table: Table::new(alloc),
             body: Body::new(),
             bus: BusLines::new(),
@@ -84,37 +93,57 @@ impl<'a> VcdReader<'a> {
             sample_line: 1,
             is_changed: true,
             sample_is_changed: true,
+            sample_ports: 0,
         })
     }
 
     /// Returns the number of the line that has the next byte, from 1.
-    pub fn line(&self) -> u64 {
+    pub fn line(&self) -> u64
+        ensures { result ≡ self.now.line }
+    {
         self.line
     }
 
     /// Returns which lines the dump has, once its header was read.
-    pub fn presence(&self) -> Presence {
+    pub fn presence(&self) -> Presence
+        ensures { result ≡ self.now.presence }
+    {
         self.presence
     }
 
     /// Returns the time of the sample that was completed.
-    pub fn time(&self) -> u64 {
+    pub fn time(&self) -> u64
+        ensures { result ≡ self.now.sample_time }
+    {
         self.sample_time
     }
 
     /// Returns the number of the line that has this time.
-    pub fn sample_line(&self) -> u64 {
+    pub fn sample_line(&self) -> u64
+        ensures { result ≡ self.now.sample_line }
+    {
         self.sample_line
     }
 
     /// Returns whether a mapped variable has a change at this time.
-    pub fn is_changed(&self) -> bool {
+    pub fn is_changed(&self) -> bool
+        ensures { result ≡ self.now.sample_is_changed }
+    {
         self.sample_is_changed
     }
 
+    /// Returns the slots whose local ports have a change at this time, the lowest bit for slot 1.
+    pub fn changed_ports(&self) -> u32
+        ensures { result ≡ self.now.sample_ports }
+    {
+        self.sample_ports
+    }
+
     /// Returns the lines of the bus.
-    pub fn bus(&mut self) -> &mut BusLines {
-        &mut self.bus
+    pub fn bus(&self) -> &BusLines
+        ensures { result.now ≡ self.now.bus }
+    {
+        &self.bus
     }
 
     /// Takes a byte.
@@ -125,6 +154,10 @@ impl<'a> VcdReader<'a> {
     #[inline]
     pub fn push(&mut self, byte: u8) -> Result<Step, VcdFault>
         ensures header { IsBefore self.old → IfOk result (λ step. Enters step self.new) }
+        ensures heading { (h : Heading) → IsHeading h self.old.header → self.old.is_body ≡ false →
+            IfOk result (λ step. TakesHeading (byte_read h byte) step self.new) }
+        ensures rejects { (h : Heading) (why : VcdFault) → IsHeading h self.old.header → self.old.is_body ≡ false →
+            byte_read h byte ≡ Rejects why → IfErr result (λ fault. fault ≡ why) }
         ensures says { (r : Reading) → IsReading r self.old →
             IfOk result (λ step. TakesRead (byte_taken (rows_of self.old) r byte) step self.new) }
         ensures fault { (r : Reading) → IsReading r self.old → OnErr result (IsBroken (rows_of self.old) r byte) }
@@ -154,7 +187,7 @@ impl<'a> VcdReader<'a> {
         ensures none { IfOk result (λ taken. taken ≡ None → self.new ≡ self.old) }
         ensures says { (r : Reading) → IsReading r self.old →
             IfOk result (λ taken. IfSome taken (λ taken. TakesLine (rows_of self.old) r text.now taken.1.now taken.0 self.new)) }
-        ensures fault { (r : Reading) → IsReading r self.old → OnErr result (bytes_taken (rows_of self.old) r text.now ≡ None) }
+        ensures fault { (r : Reading) → IsReading r self.old → OnErr result (IsBrokenText (rows_of self.old) r text.now) }
         ensures why { IfErr result (λ fault. fault ≡ TimeFalls) }
         ensures table { self.new.table ≡ self.old.table }
     {
@@ -179,7 +212,7 @@ impl<'a> VcdReader<'a> {
         ensures says { (r : Reading) → IsReading r self.old → self.old.body.place ≡ Gap →
             IfOk result (λ taken. IfSome taken (λ taken. TakesLine (rows_of self.old) r text.now taken.1.now taken.0 self.new)) }
         ensures fault { (r : Reading) → IsReading r self.old → self.old.body.place ≡ Gap →
-            OnErr result (bytes_taken (rows_of self.old) r text.now ≡ None) }
+            OnErr result (IsBrokenText (rows_of self.old) r text.now) }
         ensures why { IfErr result (λ fault. fault ≡ TimeFalls) }
         ensures table { self.new.table ≡ self.old.table }
     {
@@ -243,12 +276,20 @@ impl<'a> VcdReader<'a> {
 
     /// Takes a byte of the header.
     fn push_header(&mut self, byte: u8) -> Result<Step, VcdFault>
-        ensures { IsBefore self.old → IfOk result (λ step. Enters step self.new) }
+        ensures header { IsBefore self.old → IfOk result (λ step. Enters step self.new) }
+        ensures heading { (h : Heading) → IsHeading h self.old.header → self.old.is_body ≡ false →
+            IfOk result (λ step. TakesHeading (byte_read h byte) step self.new) }
+        ensures rejects { (h : Heading) (why : VcdFault) → IsHeading h self.old.header →
+            byte_read h byte ≡ Rejects why → IfErr result (λ fault. fault ≡ why) }
     {
-        match self.header.push(self.map, byte)? {
+        match self.header.push(byte)? {
             Progress::More => Ok(Step::More),
+            Progress::Variable => {
+                self.header.map_variable(self.map, &mut self.matching)?;
+                Ok(Step::More)
+            }
             Progress::Ended => {
-                self.presence = self.header.end(self.map, &mut self.table)?;
+                self.presence = self.matching.end(self.map, &mut self.table)?;
                 self.bus.set_has_busy(self.presence.busy);
                 self.is_body = true;
                 Ok(Step::Header)
@@ -339,12 +380,15 @@ impl<'a> VcdReader<'a> {
           sample_time = self.old.time;
           sample_line = self.old.time_line;
           sample_is_changed = self.old.is_changed;
+          sample_ports = self.old.bus.changed_ports;
+          bus = without_changes self.old.bus;
           is_changed = false;
         } }
     {
         self.sample_time = self.time;
         self.sample_line = self.time_line;
         self.sample_is_changed = self.is_changed;
+        self.sample_ports = self.bus.take_changed_ports();
         self.is_changed = false;
     }
 }

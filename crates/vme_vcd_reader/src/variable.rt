@@ -1,4 +1,10 @@
 //! A variable of the header.
+ghost use Rattle.std.specs.Prelude.{◌≡◌, ◌<◌, ◌==◌, length, IfSome};
+ghost use Rattle.std.specs.List.{position};
+ghost use Rattle.std.specs.Option.{option_map};
+ghost use Rattle.vme_vcd_reader.specs.Headers.{small_number, with_small_digit};
+ghost use Rattle.vme_vcd_reader.specs.Ranges.{cut_range, last_place, named, range_of};
+
 use crate::word::Word;
 use vme_line_map::{Group, Place, Wanted};
 
@@ -26,7 +32,11 @@ pub(crate) struct Mapped {
 }
 
 /// Returns the variable with this name, to which a range may be appended.
-pub(crate) fn named_variable(name: &Word, size: u16) -> Variable<'_> {
+pub(crate) fn named_variable(name: &Word, size: u16) -> Variable<'_>
+    ensures name { result.name.now ≡ (named name.now.bytes.items).0 }
+    ensures range { result.range ≡ (named name.now.bytes.items).1 }
+    ensures size { result.size ≡ size }
+{
     let whole = name.bytes();
     let plain = Variable {
         name: whole,
@@ -46,38 +56,70 @@ pub(crate) fn named_variable(name: &Word, size: u16) -> Variable<'_> {
     }
 }
 
+/// The last index of `[`.
+fn last_bracket(text: &[u8]) -> Option<usize>
+    ensures place { result ≡ last_place 91 text.now }
+    ensures within { IfSome result (λ place. place < length text.now) }
+{
+    let mut last = None;
+    for (place, byte) in text.iter().enumerate() {
+        if *byte == b'[' {
+            last = Some(place);
+        }
+    }
+    last
+}
+
 /// The name before the last `[`, and what stands between it and `]` at the end.
-fn cut_range(whole: &[u8]) -> Option<(&[u8], &[u8])> {
+fn cut_range(whole: &[u8]) -> Option<(&[u8], &[u8])>
+    ensures { option_map (λ cut. (cut.0.now, cut.1.now)) result ≡ cut_range whole.now }
+{
     let inner = whole.strip_suffix(b"]")?;
-    let place = inner.iter().rposition(|byte| *byte == b'[')?;
-    let name = inner.get(..place)?;
-    let range = inner.get(place + 1..)?;
-    Some((name, range))
+    let place = last_bracket(inner)?;
+    Some((&inner[..place], &inner[place + 1..]))
+}
+
+/// The first index of `:`.
+fn colon(text: &[u8]) -> Option<usize>
+    ensures place { result ≡ position (λ b. b == 58) text.now }
+    ensures within { IfSome result (λ place. place < length text.now) }
+{
+    text.iter().position(|byte| *byte == b':')
 }
 
 /// The two indices of a range, or one index twice.
-fn range_of(inner: &[u8]) -> Option<(u16, u16)> {
-    let mut parts = inner.split(|byte| *byte == b':');
-    let one = number(parts.next()?)?;
-    match parts.next() {
-        None => Some((one, one)),
-        Some(other) => Some((one, number(other)?)),
+fn range_of(inner: &[u8]) -> Option<(u16, u16)>
+    ensures { result ≡ range_of inner.now }
+{
+    let Some(place) = colon(inner) else {
+        let one = number(inner)?;
+        return Some((one, one));
+    };
+    let one = number(&inner[..place])?;
+    let other = number(&inner[place + 1..])?;
+    Some((one, other))
+}
+
+/// Returns a number with one more decimal digit, if it is below 65536.
+fn with_digit(number: u16, byte: u8) -> Option<u16>
+    ensures { result ≡ with_small_digit number byte }
+{
+    if byte < b'0' || b'9' < byte {
+        return None;
     }
+    number.checked_mul(10)?.checked_add(u16::from(byte - b'0'))
 }
 
 /// The number that one to five decimal digits spell, if it is below 65536.
-pub(crate) fn number(digits: &[u8]) -> Option<u16> {
+pub(crate) fn number(digits: &[u8]) -> Option<u16>
+    ensures { result ≡ small_number digits.now }
+{
     if digits.is_empty() || 5 < digits.len() {
         return None;
     }
     let mut number: u16 = 0;
     for byte in digits {
-        if *byte < b'0' || b'9' < *byte {
-            return None;
-        }
-        number = number
-            .checked_mul(10)?
-            .checked_add(u16::from(*byte - b'0'))?;
+        number = with_digit(number, *byte)?;
     }
     Some(number)
 }

@@ -1,5 +1,6 @@
 //! A word of the header.
-ghost use Rattle.std.specs.Prelude.{◌≡◌};
+ghost use Rattle.std.specs.Prelude.{◌≡◌, ◌==◌, ◌∷◌, ◌++◌, [], ℕ, List, length};
+ghost use Rattle.vme_vcd_reader.specs.Headings.{IsWord};
 ghost use Rattle.vme_vcd_reader.specs.Words.{is_blank};
 
 use arrayvec::ArrayVec;
@@ -17,7 +18,9 @@ pub(crate) struct Word {
 
 impl Word {
     /// Returns the empty word.
-    pub(crate) fn new() -> Word {
+    pub(crate) fn new() -> Word
+        ensures { IsWord [] result }
+    {
         Word {
             bytes: ArrayVec::new(),
             is_cut: false,
@@ -25,7 +28,9 @@ impl Word {
     }
 
     /// Appends a byte, unless the word is full.
-    pub(crate) fn push(&mut self, byte: u8) {
+    pub(crate) fn push(&mut self, byte: u8)
+        ensures { (word : List ℕ) → IsWord word self.old → IsWord (word ++ byte ∷ []) self.new }
+    {
         if self.bytes.is_full() {
             self.is_cut = true;
         } else {
@@ -33,21 +38,38 @@ impl Word {
         }
     }
 
+    /// Appends bytes, of which those that have no place are left out.
+    pub(crate) fn append(&mut self, bytes: &[u8])
+        ensures { (word : List ℕ) → IsWord word self.old → IsWord (word ++ bytes.now) self.new }
+    {
+        for byte in bytes {
+            self.push(*byte);
+        }
+    }
+
     /// Makes the word empty.
-    pub(crate) fn clear(&mut self) {
+    pub(crate) fn clear(&mut self)
+        ensures { IsWord [] self.new }
+    {
         self.bytes.clear();
         self.is_cut = false;
     }
 
-    pub(crate) fn is_empty(&self) -> bool {
+    pub(crate) fn is_empty(&self) -> bool
+        ensures { (word : List ℕ) → IsWord word self.now → result ≡ (length word == 0) }
+    {
         self.bytes.is_empty()
     }
 
-    pub(crate) fn is_cut(&self) -> bool {
+    pub(crate) fn is_cut(&self) -> bool
+        ensures { result ≡ self.now.is_cut }
+    {
         self.is_cut
     }
 
-    pub(crate) fn bytes(&self) -> &[u8] {
+    pub(crate) fn bytes(&self) -> &[u8]
+        ensures { result.now ≡ self.now.bytes.items }
+    {
         self.bytes.as_slice()
     }
 }

@@ -1,4 +1,4 @@
-use Rattle.std.proofs.Common.{◌≡◌, ◌+◌, ◌-◌, ◌≤◌, ◌<◌, suc, get_or, length, drop, take, refl, arith}
+use Rattle.std.proofs.Common.{◌≡◌, ◌-◌, ◌≤◌, ◌<◌, suc, get_or, length, drop, take, refl, arith}
 use Rattle.vme_vcd_reader.proofs.Lines.{rest_at, time_line, time_step, whole_step}
 use Rattle.vme_vcd_reader.proofs.quick.quick_time.Goals as goal
 

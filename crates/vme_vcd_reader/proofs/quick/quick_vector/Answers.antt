@@ -1,4 +1,4 @@
-use Rattle.std.proofs.Common.{◌≡◌, ◌+◌, ◌-◌, ◌≤◌, ◌<◌, suc, get_or, length, arith}
+use Rattle.std.proofs.Common.{◌≡◌, ◌≤◌, ◌<◌, suc, get_or, length, arith}
 use Rattle.vme_vcd_reader.proofs.Lines.{bits_step, ones_step, rest_at, vector_end}
 use Rattle.vme_vcd_reader.proofs.quick.quick_vector.Goals as goal
 

@@ -1,4 +1,3 @@
-use Rattle.std.proofs.Common.{◌≡◌, ◌≢◌, refl}
 use Rattle.vme_vcd_reader.proofs.Words.{no_name, name_ends, no_digits, digits_end}
 use Rattle.vme_vcd_reader.proofs.Reasons.{at_digits, at_name, at_time}
 use Rattle.vme_vcd_reader.proofs.body.Body.end_word.Goals as goal

@@ -1,4 +1,4 @@
-use Rattle.std.proofs.Common.{◌≡◌, List, []}
+use Rattle.std.proofs.Common.{◌≡◌, []}
 use Rattle.vme_vcd_reader.specs.Tables.{IsLinked}
 use Rattle.vme_vcd_reader.proofs.matching.Matching.end.Given as goal
 

@@ -1,0 +1,157 @@
+-- Bytes of a dump, judged up to those that are left.
+use Rattle.std.proofs.Common.{◌≡◌, ℕ, ◌+◌, ◌<◌, ◌≤◌, Bool, true, false, List, [], ◌∷◌, ◌++◌, append_assoc, append-nil, length, length-append, arith, subst, Option, Some, None, Result, Ok, Err, IfOk, refl, ap, sym, ◌∙◌}
+use Rattle.std.specs.Option.{option_and_then, option_map}
+use Rattle.std.specs.declared.alloc.AllocError.{AllocError}
+use Rattle.std.proofs.lemmas.Bool.{false≢true}
+use Rattle.vme_vcd_reader.specs.declared.reader.Step.{Step}
+use Rattle.vme_vcd_reader.specs.declared.reader.VcdReader.{VcdReader}
+use Rattle.vme_vcd_reader.specs.declared.table.Row.{Row}
+use Rattle.vme_vcd_reader.specs.Bodies.{Reading, Shown, before, byte_taken, samples_by, samples_of}
+use Rattle.vme_vcd_reader.specs.Lines.{bytes_taken, list_of, shown_first}
+use Rattle.vme_vcd_reader.specs.Readers.{IsReading, ReportsSample, TakesLine, rows_of}
+use Rattle.vme_judge.specs.declared.run.Run.{Run}
+use Rattle.vme_judge.specs.DumpRuns.{IsDumpJudgedAs, JudgesBody, ReadsOn, TakesDump, TakesNext, dump_so_far, dump_whole}
+use Rattle.vme_judge.specs.Runs.{IsGoing, IsOnceRun, StaysFound}
+use Rattle.vme_judge.specs.Standing.{standing}
+use Rattle.vme_judge.proofs.DumpRuns.{all_before, bytes_judged, first_before, first_reading, one_before, samples_first}
+
+-- a run has judged bytes of a body up to those that are left
+pub record ReadsTo (old new : Run) (r : Reading) (bytes left : List ℕ) : Type 0 where
+  pub after : Reading
+  pub reading : IsReading after new.vcd
+  pub judges : (rest : List ℕ) → dump_whole old r (bytes ++ rest) ≡ dump_whole new after (left ++ rest)
+
+-- a run before the first of some bytes
+pub reads_none : (run : Run) (r : Reading) (bytes : List ℕ) → IsReading r run.vcd → ReadsTo run run r bytes bytes
+reads_none run r bytes is = record {
+  after = r;
+  reading = is;
+  judges = λ rest. refl;
+}
+
+-- a run that reads on with some of the bytes that are left
+pub reads_more : (old mid new : Run) (r : Reading) (bytes left line rest : List ℕ) (to : ReadsTo old mid r bytes left) → left ≡ line ++ rest
+    → ReadsOn mid new to.after line → ReadsTo old new r bytes rest
+reads_more old mid new r bytes left line rest to is on = record {
+  after = on.after;
+  reading = on.reading;
+  judges = λ more.
+      to.judges more
+      ∙ ap (λ left. dump_whole mid to.after (left ++ more)) is
+      ∙ ap (dump_whole mid to.after) (append_assoc line rest more)
+      ∙ on.judges (rest ++ more);
+}
+
+-- a run that stops at some of the bytes that are left
+pub stops_at : (old mid new : Run) (r : Reading) (bytes left line rest : List ℕ) (to : ReadsTo old mid r bytes left) → left ≡ line ++ rest
+    → ((more : List ℕ) → JudgesBody mid new to.after (line ++ more)) → (more : List ℕ) → JudgesBody old new r (bytes ++ more)
+stops_at old mid new r bytes left line rest to is stops more =
+    subst (λ d. IsDumpJudgedAs d (dump_so_far new) (standing new.judge))
+    (sym (
+    to.judges more
+    ∙ ap (λ left. dump_whole mid to.after (left ++ more)) is
+    ∙ ap (dump_whole mid to.after) (append_assoc line rest more)
+    ))
+    (stops (rest ++ more))
+
+-- bytes that are all taken
+pub reads_all : (old new : Run) (r : Reading) (bytes left : List ℕ) → ReadsTo old new r bytes left → left ≡ [] → ReadsOn old new r bytes
+reads_all old new r bytes left to none = record {
+  after = to.after;
+  reading = to.reading;
+  judges = λ rest. to.judges rest ∙ ap (λ left. dump_whole new to.after (left ++ rest)) none;
+}
+
+-- samples of a text after a byte, by what the bytes after it say
+samples_then : (rows : List Row) (bs rest : List ℕ) (after : Reading) (list : List Shown) (taken : Reading × Option Shown)
+    (o : Option (Reading × List Shown)) → bytes_taken rows taken.0 bs ≡ o
+    → ((next : Reading) (list : List Shown) → bytes_taken rows taken.0 bs ≡ Some (next, list)
+    → samples_of rows taken.0 (bs ++ rest) ≡ all_before list (samples_of rows next rest))
+    → option_map (shown_first taken.1) o ≡ Some (after, list)
+    → samples_by rows (Some taken) (bs ++ rest) ≡ all_before list (samples_of rows after rest)
+samples_then rows bs rest after list taken None says then is = absurd (cc is)
+samples_then rows bs rest after list taken (Some more) says then is =
+    let same : shown_first taken.1 more ≡ (after, list) = cc is in
+    samples_first rows taken (bs ++ rest)
+    ∙ ap (before taken.1) (then more.0 more.1 says)
+    ∙ first_before taken.1 more (samples_of rows more.0 rest)
+    ∙ ap (λ r. all_before ((shown_first taken.1 more).1) (samples_of rows r rest)) (sym (first_reading taken.1 more))
+    ∙ ap (λ (q : Reading × List Shown). all_before q.1 (samples_of rows q.0 rest)) same
+
+-- samples of a text after bytes, by what the first of them says
+samples_next : (rows : List Row) (bs rest : List ℕ) (after : Reading) (list : List Shown) (o : Option (Reading × Option Shown))
+    → ((r next : Reading) (list : List Shown) → bytes_taken rows r bs ≡ Some (next, list)
+    → samples_of rows r (bs ++ rest) ≡ all_before list (samples_of rows next rest))
+    → option_and_then (λ (taken : Reading × Option Shown). option_map (shown_first taken.1) (bytes_taken rows taken.0 bs)) o ≡ Some (after, list)
+    → samples_by rows o (bs ++ rest) ≡ all_before list (samples_of rows after rest)
+samples_next rows bs rest after list None then is = absurd (cc is)
+samples_next rows bs rest after list (Some taken) then is =
+    samples_then rows bs rest after list taken (bytes_taken rows taken.0 bs) refl (λ next list. then taken.0 next list) is
+
+-- samples of a text after bytes
+bytes_samples : (rows : List Row) (line rest : List ℕ) (r after : Reading) (list : List Shown) → bytes_taken rows r line ≡ Some (after, list)
+    → samples_of rows r (line ++ rest) ≡ all_before list (samples_of rows after rest)
+bytes_samples rows [] rest r after list is =
+    let none : List Shown = [] in
+    let same : (r, none) ≡ (after, list) = cc is in
+    ap (λ (q : Reading × List Shown). all_before q.1 (samples_of rows q.0 rest)) same
+bytes_samples rows (b ∷ bs) rest r after list is =
+    samples_next rows bs rest after list (byte_taken rows r b) (λ r next list. bytes_samples rows bs rest r next list) is
+
+-- a run that takes a line of a body
+pub line_judged : (old new : Run) (v : VcdReader) (r : Reading) (text rest : List ℕ) (step : Step) (goes_on : Bool)
+    (line : TakesLine (rows_of old.vcd) r text rest step v) → rows_of v ≡ rows_of old.vcd
+    → ((shown : Option Shown) → ReportsSample shown step v → TakesNext (record old { vcd = v }) new shown goes_on)
+    → TakesDump old new r line.line goes_on
+line_judged old new v r text rest step goes_on line rows takes =
+    bytes_judged old new v r line.after line.line line.shown goes_on
+    (λ more. bytes_samples (rows_of old.vcd) line.line more r line.after (list_of line.shown) line.taken
+    ∙ one_before line.shown (samples_of (rows_of old.vcd) line.after more))
+    line.reading rows (takes line.shown line.reports)
+
+module _ (first mid new : Run) (r : Reading) (bytes left line rest : List ℕ) (goes_on : Bool) (to : ReadsTo first mid r bytes left) where
+  -- a run that stops at some of the bytes that are left
+  pub dump_stops : StaysFound first mid → (IsOnceRun first → IsGoing first → IsOnceRun mid × IsGoing mid) → left ≡ line ++ rest
+      → TakesDump mid new to.after line goes_on → goes_on ≡ false → TakesDump first new r bytes false
+  dump_stops stays once is takes off = record {
+    reads = λ on. absurd (false≢true on);
+    stops = λ same. stops_at first mid new r bytes left line rest to is (takes.stops off);
+    stays = λ none. takes.stays (stays none);
+    once = λ one going. let had = once one going in ((takes.once had.0 had.1).0, λ on. absurd (false≢true on));
+  }
+
+-- a run that rejects the bytes that are left
+pub dump_refused : (first mid new : Run) (r : Reading) (bytes left : List ℕ) (result : Result Bool AllocError) (to : ReadsTo first mid r bytes left)
+    → StaysFound first mid → (IsOnceRun first → IsGoing first → IsOnceRun mid × IsGoing mid) → IfOk result (TakesDump mid new to.after left)
+    → IfOk result (λ goes_on. goes_on ≡ false) → IfOk result (TakesDump first new r bytes)
+dump_refused first mid new r bytes left (Err fault) to stays once takes off = tt
+dump_refused first mid new r bytes left (Ok true) to stays once takes off = absurd (cc off)
+dump_refused first mid new r bytes left (Ok false) to stays once takes off =
+    dump_stops first mid new r bytes left left [] false to stays once (sym (append-nil left)) takes refl
+
+-- a line is one byte at least
+line_left : (text line rest : List ℕ) (step all : ℕ) → text ≡ line ++ rest → 0 < length line → length text + step ≤ all
+    → length rest + (step + 1) ≤ all
+line_left text line rest step all is some left = omega (arith, length-append line rest, ap length is)
+
+-- a run that goes on after a line of the bytes that are left
+pub record GoesOver (first new : Run) (r : Reading) (bytes rest : List ℕ) (step : ℕ) : Type 0 where
+  pub reads : ReadsTo first new r bytes rest
+  pub stays : StaysFound first new
+  pub once : IsOnceRun first → IsGoing first → IsOnceRun new × IsGoing new
+  pub left : length rest + step ≤ length bytes
+
+module _ (first mid new : Run) (r : Reading) (bytes text line rest : List ℕ) (step : ℕ) (goes_on : Bool) (to : ReadsTo first mid r bytes text) where
+  -- the same, from what was judged before the line
+  pub line_over : StaysFound first mid → (IsOnceRun first → IsGoing first → IsOnceRun mid × IsGoing mid) → length text + step ≤ length bytes
+      → text ≡ line ++ rest → 0 < length line → TakesDump mid new to.after line goes_on → goes_on ≡ true
+      → GoesOver first new r bytes rest (step + 1)
+  line_over stays once left is some takes on = record {
+    reads = reads_more first mid new r bytes text line rest to is (takes.reads on);
+    stays = λ none. takes.stays (stays none);
+    once = λ one going.
+        let had = once one going in
+        let now = takes.once had.0 had.1 in
+        (now.0, now.1 on);
+    left = line_left text line rest step (length bytes) is some left;
+  }

@@ -1,0 +1,313 @@
+-- A dump that is judged while it is read.
+use Rattle.std.proofs.Common.{◌≡◌, ℕ, Bool, true, false, inl, inr, List, [], ◌∷◌, ◌++◌, replicate, subst, Option, Some, None, IsSome, is_some, Result, Ok, Err, IfOk, Bor, refl, ap, sym, ◌∙◌}
+use Rattle.std.specs.declared.alloc.AllocError.{AllocError}
+use Rattle.std.proofs.lemmas.Bool.{false≢true}
+use Rattle.vme_protocol.specs.declared.port.Port.{Port}
+use Rattle.vme_vcd_reader.specs.declared.reader.Step.{Step}
+use Rattle.vme_vcd_reader.specs.declared.reader.Step.TheVariants as steps
+use Rattle.vme_vcd_reader.specs.declared.reader.VcdReader.{VcdReader}
+use Rattle.vme_vcd_reader.specs.declared.table.Row.{Row}
+use Rattle.vme_vcd_reader.specs.Bodies.{Reading, Shown, Samples, Sample, End, Broken as BrokenBody, before, byte_taken, samples_by, samples_of}
+use Rattle.vme_vcd_reader.specs.Ports.{without_changes}
+use Rattle.vme_vcd_reader.specs.Lines.{list_of, shown_first}
+use Rattle.vme_vcd_reader.specs.Readers.{IsReading, ReportsLast, ReportsSample, TakesRead, rows_of, samples_left}
+use Rattle.vme_judge.specs.declared.dump.Ports.{Ports}
+use Rattle.vme_judge.specs.declared.judge.Judge.{Judge}
+use Rattle.vme_judge.specs.declared.options.Options.{Options}
+use Rattle.vme_judge.specs.declared.run.Run.{Run}
+use Rattle.vme_judge.specs.DumpRuns.{EndsDump, EndsOnce, IsDumpJudgedAs, JudgesBody, TakesDump, TakesLast, TakesNext, TakesShown, dump_at, dump_so_far, dump_whole, next_if, shown_by}
+use Rattle.vme_judge.specs.Dumps.{DumpSoFar, Legal, Illegal, Broken, dump_by, dump_taken, next_shown}
+use Rattle.vme_judge.specs.Standing.{Standing, standing, IsOnce}
+
+-- an illegal dump is not remembered
+dump_none : (m : Option Standing) (ports : List (Option Port)) → dump_by m ports ≡ Illegal → m ≡ None
+dump_none None ports is = refl
+dump_none (Some m) ports is = absurd (cc is)
+
+-- a sample, by whether the dump is rejected
+next_at : (o : Options) (s : Shown) (rejected : Bool) (m n : Option Standing) (last next : List (Option Port))
+    → dump_by n next ≡ next_shown o s (dump_by m last) → dump_at rejected n next ≡ next_shown o s (dump_at rejected m last)
+next_at o s true m n last next is = refl
+next_at o s false m n last next is = is
+
+-- nothing is remembered after a sample, if nothing is before
+next_none : (o : Options) (s : Shown) (m n : Option Standing) (last next : List (Option Port))
+    → dump_by n next ≡ next_shown o s (dump_by m last) → m ≡ None → n ≡ None
+next_none o s m n last next is none = dump_none n next (is ∙ ap (λ m. next_shown o s (dump_by m last)) none)
+
+-- a dump before its first sample
+pub dump_opens : (m : Option Standing) (opened : Standing) (ports : List (Option Port)) → m ≡ Some opened → ports ≡ replicate 21 None
+    → dump_by m ports ≡ Legal opened (replicate 21 None)
+dump_opens m opened ports is none = ap (λ m. dump_by m ports) is ∙ ap (Legal opened) none
+
+-- a value that there is is not none
+not_none : (m : Option Standing) → IsSome m → m ≡ None → ⊥
+not_none m some none = cc (some, none)
+
+-- a run that takes a sample
+pub shown_next : (old : Run) (judge : Judge) (ports : Ports) (s : Shown) (result : Result Bool AllocError)
+    → IfOk result (TakesShown old.judge judge old.ports.last ports.last s)
+    → IfOk result (TakesNext old (record old { judge = judge; ports = ports }) (Some s))
+shown_next old judge ports s (Err fault) takes = tt
+shown_next old judge ports s (Ok goes_on) takes = record {
+  dump = next_at old.judge.options.now s (is_some old.rejection) (standing old.judge) (standing judge) old.ports.last ports.last takes.dump;
+  reader = refl;
+  options = takes.options;
+  stops = takes.stops;
+  stays = next_none old.judge.options.now s (standing old.judge) (standing judge) old.ports.last ports.last takes.dump;
+  once = λ once going.
+      let had = takes.once once.0 going.0 in
+      ((had.0, λ none. going.1), λ goes. (had.1 goes, going.1));
+}
+
+-- the sample that a reader reports
+reports_is : (s : Shown) (step : Step) (v : VcdReader) → ReportsSample (Some s) step v → shown_by v ≡ s
+reports_is s step v is =
+    ap (λ x. let r : Shown = record { time = x; lines = v.bus; changed = v.sample_is_changed; ports = v.sample_ports } in r) is.1
+    ∙ ap (λ x. let r : Shown = record { time = s.time; lines = x; changed = v.sample_is_changed; ports = v.sample_ports } in r) is.2
+    ∙ ap (λ x. let r : Shown = record { time = s.time; lines = s.lines; changed = x; ports = v.sample_ports } in r) is.3
+    ∙ ap (λ x. let r : Shown = record { time = s.time; lines = s.lines; changed = s.changed; ports = x } in r) is.4
+
+-- a run that takes no sample
+pub next_nothing : (run : Run) (step : Step) (shown : Option Shown) → step ≡ steps.More → ReportsSample shown step run.vcd
+    → TakesNext run run shown true
+next_nothing run step None more is = record {
+  dump = refl;
+  reader = refl;
+  options = refl;
+  stops = λ stopped. absurd (cc stopped);
+  stays = λ none. none;
+  once = λ once going. (once, λ goes. going);
+}
+next_nothing run step (Some s) more is = absurd (let both : steps.More ≡ steps.Sample = sym more ∙ is.0 in cc both)
+
+-- a run that takes the sample that its reader reports
+pub next_reported : (old new : Run) (step : Step) (result : Result Bool AllocError) (shown : Option Shown) → step ≡ steps.Sample
+    → ReportsSample shown step old.vcd → IfOk result (TakesNext old new (Some (shown_by old.vcd))) → IfOk result (TakesNext old new shown)
+next_reported old new step result None sample is takes = absurd (let both : steps.Sample ≡ steps.More = sym sample ∙ is in cc both)
+next_reported old new step result (Some s) sample is takes =
+    subst (λ s. IfOk result (TakesNext old new (Some s))) (reports_is s step old.vcd is) takes
+
+-- a header is no sample
+pub next_never : (step : Step) (v : VcdReader) (shown : Option Shown) → step ≡ steps.Header → ReportsSample shown step v → ⊥
+next_never step v None header is = let both : steps.Header ≡ steps.More = sym header ∙ is in cc both
+next_never step v (Some s) header is = let both : steps.Header ≡ steps.Sample = sym header ∙ is.0 in cc both
+
+-- samples after one that is there, if it is
+dump_before : (o : Options) (d : DumpSoFar) (shown : Option Shown) (samples : Samples)
+    → dump_taken o d (before shown samples) ≡ dump_taken o (next_if o shown d) samples
+dump_before o d None samples = refl
+dump_before o d (Some s) samples = refl
+
+-- samples of a text after what a byte completes
+pub samples_first : (rows : List Row) (taken : Reading × Option Shown) (rest : List ℕ)
+    → samples_by rows (Some taken) rest ≡ before taken.1 (samples_of rows taken.0 rest)
+samples_first rows taken [] = refl
+samples_first rows taken (b ∷ bs) = refl
+
+-- samples before others
+abbrev pub all_before : List Shown → Samples → Samples
+all_before [] samples = samples
+all_before (s ∷ list) samples = Sample s (all_before list samples)
+
+-- samples of a list of one at most
+pub one_before : (shown : Option Shown) (samples : Samples) → all_before (list_of shown) samples ≡ before shown samples
+one_before None samples = refl
+one_before (Some s) samples = refl
+
+-- a sample before others
+pub first_before : (shown : Option Shown) (more : Reading × List Shown) (samples : Samples)
+    → before shown (all_before more.1 samples) ≡ all_before ((shown_first shown more).1) samples
+first_before None more samples = refl
+first_before (Some s) more samples = refl
+
+-- the reading after a sample
+pub first_reading : (shown : Option Shown) (more : Reading × List Shown) → (shown_first shown more).0 ≡ more.0
+first_reading None more = refl
+first_reading (Some s) more = refl
+
+-- a dump that nothing changes
+over_at : (o : Options) (rejected : Bool) (m : Option Standing) (ports : List (Option Port)) (samples : Samples) → m ≡ None
+    → dump_taken o (dump_at rejected m ports) samples ≡ dump_at rejected m ports
+over_at o true m ports End none = refl
+over_at o true m ports BrokenBody none = refl
+over_at o true m ports (Sample s samples) none = over_at o true m ports samples none
+over_at o false (Some m) ports samples none = absurd (cc none)
+over_at o false None ports End none = refl
+over_at o false None ports BrokenBody none = refl
+over_at o false None ports (Sample s samples) none = over_at o false None ports samples none
+
+-- a run that has found something is over
+over : (o : Options) (run : Run) (samples : Samples) → standing run.judge ≡ None → dump_taken o (dump_so_far run) samples ≡ dump_so_far run
+over o run samples none = over_at o (is_some run.rejection) (standing run.judge) run.ports.last samples none
+
+-- what is left of a dump, by what is read of it
+whole_same : (o p : Options) (d e : DumpSoFar) (rows all : List Row) (after : Reading) (rest : List ℕ) → p ≡ o → e ≡ d → all ≡ rows
+    → dump_taken o d (samples_of rows after rest) ≡ dump_taken p e (samples_of all after rest)
+whole_same o p d e rows all after rest options dump same =
+    ap (λ o. dump_taken o d (samples_of rows after rest)) (sym options)
+    ∙ ap (λ d. dump_taken p d (samples_of rows after rest)) (sym dump)
+    ∙ ap (λ rows. dump_taken p e (samples_of rows after rest)) (sym same)
+
+-- a dump that is judged as it is
+judged_as : (dump judged over : DumpSoFar) (m : Option Standing) → dump ≡ judged → judged ≡ over → IsDumpJudgedAs dump over m
+judged_as dump judged over m is same = inl (sym (is ∙ same))
+
+-- what is left of a dump after the sample which bytes complete
+whole_judged : (old new : Run) (v : VcdReader) (r after : Reading) (bytes : List ℕ) (shown : Option Shown) (goes_on : Bool) (rest : List ℕ)
+    → samples_of (rows_of old.vcd) r (bytes ++ rest) ≡ before shown (samples_of (rows_of old.vcd) after rest) → rows_of v ≡ rows_of old.vcd
+    → TakesNext (record old { vcd = v }) new shown goes_on → dump_whole old r (bytes ++ rest) ≡ dump_whole new after rest
+whole_judged old new v r after bytes shown goes_on rest says rows takes =
+    ap (dump_taken old.judge.options.now (dump_so_far old)) says
+    ∙ dump_before old.judge.options.now (dump_so_far old) shown (samples_of (rows_of old.vcd) after rest)
+    ∙ whole_same old.judge.options.now new.judge.options.now (next_if old.judge.options.now shown (dump_so_far old)) (dump_so_far new)
+    (rows_of old.vcd) (rows_of new.vcd) after rest (ap (λ (o : Bor Options). o.now) takes.options) takes.dump
+    (ap rows_of takes.reader ∙ rows)
+
+module _ (old new : Run) (v : VcdReader) (r after : Reading) (bytes : List ℕ) (shown : Option Shown) where
+  -- a run that takes the sample which bytes complete
+  pub bytes_judged : (goes_on : Bool) → ((rest : List ℕ) → samples_of (rows_of old.vcd) r (bytes ++ rest)
+      ≡ before shown (samples_of (rows_of old.vcd) after rest)) → IsReading after v → rows_of v ≡ rows_of old.vcd
+      → TakesNext (record old { vcd = v }) new shown goes_on → TakesDump old new r bytes goes_on
+  bytes_judged goes_on says reading rows takes = record {
+    reads = λ on. record {
+      after = after;
+      reading = subst (IsReading after) (sym takes.reader) reading;
+      judges = λ rest. whole_judged old new v r after bytes shown goes_on rest (says rest) rows takes;
+    };
+    stops = λ off rest.
+        judged_as (dump_whole old r (bytes ++ rest)) (dump_whole new after rest) (dump_so_far new) (standing new.judge)
+        (whole_judged old new v r after bytes shown goes_on rest (says rest) rows takes)
+        (over new.judge.options.now new (samples_of (rows_of new.vcd) after rest) (takes.stops off));
+    stays = takes.stays;
+    once = takes.once;
+  }
+
+-- a run that takes the byte of a body, by what it says
+byte_by : (old new : Run) (v : VcdReader) (r : Reading) (byte : ℕ) (step : Step) (o : Option (Reading × Option Shown))
+    (result : Result Bool AllocError) → byte_taken (rows_of old.vcd) r byte ≡ o → TakesRead o step v → rows_of v ≡ rows_of old.vcd
+    → ((shown : Option Shown) → ReportsSample shown step v → IfOk result (TakesNext (record old { vcd = v }) new shown))
+    → IfOk result (TakesDump old new r (byte ∷ []))
+byte_by old new v r byte step o (Err fault) is reads rows takes = tt
+byte_by old new v r byte step None (Ok goes_on) is reads rows takes = absurd reads
+byte_by old new v r byte step (Some taken) (Ok goes_on) is reads rows takes =
+    bytes_judged old new v r taken.0 (byte ∷ []) taken.1 goes_on
+    (λ rest. ap (λ o. samples_by (rows_of old.vcd) o rest) is ∙ samples_first (rows_of old.vcd) taken rest) reads.0 rows (takes taken.1 reads.1)
+
+-- a run that takes the byte of a body
+pub byte_judged : (old new : Run) (v : VcdReader) (r : Reading) (byte : ℕ) (step : Step) (result : Result Bool AllocError)
+    → TakesRead (byte_taken (rows_of old.vcd) r byte) step v → rows_of v ≡ rows_of old.vcd
+    → ((shown : Option Shown) → ReportsSample shown step v → IfOk result (TakesNext (record old { vcd = v }) new shown))
+    → IfOk result (TakesDump old new r (byte ∷ []))
+byte_judged old new v r byte step result reads rows takes =
+    byte_by old new v r byte step (byte_taken (rows_of old.vcd) r byte) result refl reads rows takes
+
+-- a dump whose text is none of a body, by what was judged of it before
+broken_at : (o : Options) (rejected : Bool) (m n : Option Standing) (ports : List (Option Port)) (samples : Samples) → samples ≡ BrokenBody
+    → n ≡ m → IsDumpJudgedAs (dump_taken o (dump_at rejected m ports) samples) Broken n
+broken_at o true m n ports samples is same = inl (sym (ap (dump_taken o Broken) is))
+broken_at o false None n ports samples is same = inr (ap (dump_taken o Illegal) is, same)
+broken_at o false (Some m) n ports samples is same = inl (sym (ap (dump_taken o (Legal m ports)) is))
+
+-- a run that has rejected a dump
+rejected_is : (run : Run) → is_some run.rejection ≡ true → dump_so_far run ≡ Broken
+rejected_is run is = ap (λ rejected. dump_at rejected (standing run.judge) run.ports.last) is
+
+-- a run that rejects a body
+pub body_rejected : (old new : Run) (r : Reading) (text : List ℕ) → samples_of (rows_of old.vcd) r text ≡ BrokenBody
+    → is_some new.rejection ≡ true → new.judge ≡ old.judge → JudgesBody old new r text
+body_rejected old new r text broken rejected judge =
+    subst (λ d. IsDumpJudgedAs (dump_whole old r text) d (standing new.judge)) (sym (rejected_is new rejected))
+    (broken_at old.judge.options.now (is_some old.rejection) (standing old.judge) (standing new.judge) old.ports.last
+    (samples_of (rows_of old.vcd) r text) broken (ap standing judge))
+
+-- a run for one finding that has found nothing, and rejects a dump
+rejects_once : (old new : Run) → new.judge ≡ old.judge → EndsOnce old new
+rejects_once old new judge once going =
+    (subst IsOnce (sym judge) once.0, λ none. absurd (not_none (standing old.judge) going.0 (sym (ap standing judge) ∙ none)))
+
+-- a run that rejects bytes of a body, whatever follows
+pub bytes_rejected : (old new : Run) (r : Reading) (bytes : List ℕ) (result : Result Bool AllocError)
+    → ((rest : List ℕ) → samples_of (rows_of old.vcd) r (bytes ++ rest) ≡ BrokenBody) → IfOk result (λ goes_on. goes_on ≡ false)
+    → IfOk result (λ _. is_some new.rejection ≡ true) → IfOk result (λ _. new.judge ≡ old.judge)
+    → IfOk result (TakesDump old new r bytes)
+bytes_rejected old new r bytes (Err fault) broken stops rejected judge = tt
+bytes_rejected old new r bytes (Ok goes_on) broken stops rejected judge = record {
+  reads = λ on. absurd (false≢true (sym stops ∙ on));
+  stops = λ off rest. body_rejected old new r (bytes ++ rest) (broken rest) rejected judge;
+  stays = λ none. ap standing judge ∙ none;
+  once = λ once going. (rejects_once old new judge once going, λ on. absurd (false≢true (sym stops ∙ on)));
+}
+
+-- the last of the samples that are left at the end of a text is none
+last_left : (v : VcdReader) (begun : Bool) (s : Shown) (samples : Samples) → v.is_begun ≡ begun → samples_left v ≡ Sample s samples → samples ≡ End
+last_left v true s samples is left =
+    let one : Sample (record { time = v.time; lines = without_changes v.bus; changed = v.is_changed; ports = v.bus.changed_ports }) End
+    ≡ Sample s samples = rw is at left in
+    cc one
+last_left v false s samples is left = absurd (let none : End ≡ Sample s samples = rw is at left in cc none)
+
+-- a run that stops at the first of the last samples
+pub last_stopped : (old new : Run) (step : Step) (samples : Samples) (goes_on : Bool) → step ≡ steps.Sample → ReportsLast samples step old.vcd
+    → TakesNext old new (Some (shown_by old.vcd)) goes_on → goes_on ≡ false → TakesLast old new samples
+last_stopped old new step BrokenBody goes_on is last takes off = absurd last
+last_stopped old new step End goes_on is last takes off = absurd (let both : steps.Sample ≡ steps.More = sym is ∙ last.0 in cc both)
+last_stopped old new step (Sample s samples) goes_on is last takes off = record {
+  dump =
+      sym (over old.judge.options.now new samples (takes.stops off))
+      ∙ ap (λ d. dump_taken old.judge.options.now d samples)
+      (takes.dump ∙ ap (λ s. next_shown old.judge.options.now s (dump_so_far old)) (reports_is s step old.vcd last.0));
+  stays = takes.stays;
+  once = λ once going. (takes.once once going).0;
+}
+
+-- a run that takes the second of the last samples, by which are left after the first
+second_by : (old mid new : Run) (v : VcdReader) (next : Step) (s : Shown) (left samples : Samples) (on goes_on : Bool)
+    → next ≡ steps.Sample → samples_left old.vcd ≡ samples → left ≡ samples → ReportsLast left next v → on ≡ true
+    → TakesNext old mid (Some s) on → TakesNext (record mid { vcd = v }) new (Some (shown_by v)) goes_on → TakesLast old new (Sample s samples)
+second_by old mid new v next s BrokenBody samples on goes_on is were same last went first second = absurd last
+second_by old mid new v next s End samples on goes_on is were same last went first second =
+    absurd (let both : steps.Sample ≡ steps.More = sym is ∙ last.0 in cc both)
+second_by old mid new v next s (Sample t others) samples on goes_on is were same last went first second = record {
+  dump =
+      second.dump
+      ∙ ap (λ (o : Bor Options). next_shown o.now (shown_by v) (dump_so_far mid)) first.options
+      ∙ ap (next_shown old.judge.options.now (shown_by v)) first.dump
+      ∙ ap (λ t. next_shown old.judge.options.now t (next_shown old.judge.options.now s (dump_so_far old))) (reports_is t next v last.0)
+      ∙ ap (λ others. dump_taken old.judge.options.now (next_shown old.judge.options.now s (dump_so_far old)) (Sample t others))
+      (sym (last_left old.vcd old.vcd.is_begun t others refl (were ∙ sym same)))
+      ∙ ap (dump_taken old.judge.options.now (next_shown old.judge.options.now s (dump_so_far old))) same;
+  stays = λ none. second.stays (first.stays none);
+  once = λ once going. let had = first.once once going in (second.once had.0 (had.1 went)).0;
+}
+
+-- a run that takes both of the last samples
+pub last_taken : (old mid new : Run) (v : VcdReader) (step next : Step) (samples : Samples) (on goes_on : Bool) → step ≡ steps.Sample
+    → ReportsLast samples step old.vcd → TakesNext old mid (Some (shown_by old.vcd)) on → on ≡ true
+    → ReportsLast (samples_left mid.vcd) next v → next ≡ steps.Sample
+    → TakesNext (record mid { vcd = v }) new (Some (shown_by v)) goes_on → TakesLast old new samples
+last_taken old mid new v step next BrokenBody on goes_on is last first went left then second = absurd last
+last_taken old mid new v step next End on goes_on is last first went left then second =
+    absurd (let both : steps.Sample ≡ steps.More = sym is ∙ last.0 in cc both)
+last_taken old mid new v step next (Sample s samples) on goes_on is last first went left then second =
+    second_by old mid new v next s (samples_left mid.vcd) samples on goes_on then last.1 (ap samples_left first.reader ∙ last.1) left went
+    (subst (λ s. TakesNext old mid (Some s) on) (reports_is s step old.vcd last.0) first) second
+
+-- a run that has taken the last samples of a body
+pub ended_as : (old new : Run) (v : VcdReader) (r : Reading) (result : Result (Unit {0}) AllocError)
+    → IfOk result (λ _. TakesLast (record old { vcd = v }) new (samples_of (rows_of old.vcd) r [])) → IfOk result (λ _. EndsDump old new r)
+ended_as old new v r (Err fault) takes = tt
+ended_as old new v r (Ok value) takes = record {
+  judges = inl takes.dump;
+  stays = takes.stays;
+  once = takes.once;
+}
+
+-- a run that rejects a body that ends here
+pub ended_broken : (old new : Run) (r : Reading) → samples_of (rows_of old.vcd) r [] ≡ BrokenBody → is_some new.rejection ≡ true
+    → new.judge ≡ old.judge → EndsDump old new r
+ended_broken old new r broken rejected judge = record {
+  judges = body_rejected old new r [] broken rejected judge;
+  stays = λ none. ap standing judge ∙ none;
+  once = rejects_once old new judge;
+}

@@ -1,0 +1,107 @@
+-- A dump that is judged while it is read.
+use Rattle.std.specs.Prelude.{◌≡◌, ℕ, Bool, true, false, ◌⊎◌, List, [], ◌++◌, Option, Some, None, is_some, IsSome}
+use Rattle.std.specs.Option.{option_and_then, option_map}
+use Rattle.vme_protocol.specs.declared.port.Port.{Port}
+use Rattle.vme_vcd_reader.specs.declared.reader.VcdReader.{VcdReader}
+use Rattle.vme_vcd_reader.specs.Bodies.{Reading, Samples, Shown, samples_of}
+use Rattle.vme_vcd_reader.specs.Readers.{IsReading, rows_of}
+use Rattle.vme_judge.specs.declared.judge.Judge.{Judge}
+use Rattle.vme_judge.specs.declared.options.Options.{Options}
+use Rattle.vme_judge.specs.declared.run.Run.{Run}
+use Rattle.vme_judge.specs.Dumps.{DumpSoFar, Illegal, Broken, dump_by, dump_taken, next_shown, with_presence}
+use Rattle.vme_judge.specs.Runs.{IsGoing, IsOnceRun, RunsOnce, StaysFound}
+use Rattle.vme_judge.specs.Standing.{Standing, standing, IsOnce}
+
+-- a judgement for one finding stays one, and if it goes on, it has found nothing
+abbrev pub JudgesOnce : Judge → Judge → Bool → Type 0
+JudgesOnce old new goes_on = IsOnce old → IsSome (standing old) → IsOnce new × (goes_on ≡ true → IsSome (standing new))
+
+-- a judgement has taken something after which this is remembered; if it does not go on, something was found
+pub record Takes (old new : Judge) (taken : Standing → Option Standing) (goes_on : Bool) : Type 0 where
+  pub judged : standing new ≡ option_and_then taken (standing old)
+  pub stops : goes_on ≡ false → standing new ≡ None
+  pub options : new.options ≡ old.options
+  pub once : JudgesOnce old new goes_on
+
+-- the sample that a reader has completed
+abbrev pub shown_by : VcdReader → Shown
+shown_by v = record { time = v.sample_time; lines = v.bus; changed = v.sample_is_changed; ports = v.sample_ports }
+
+-- a judgement and what is remembered of local ports have taken a sample
+pub record TakesShown (old new : Judge) (last next : List (Option Port)) (shown : Shown) (goes_on : Bool) : Type 0 where
+  pub dump : dump_by (standing new) next ≡ next_shown old.options.now shown (dump_by (standing old) last)
+  pub stops : goes_on ≡ false → standing new ≡ None
+  pub options : new.options ≡ old.options
+  pub once : JudgesOnce old new goes_on
+
+-- a dump by whether it is rejected, what is remembered of it and of its local ports
+abbrev pub dump_at : Bool → Option Standing → List (Option Port) → DumpSoFar
+dump_at true m ports = Broken
+dump_at false m ports = dump_by m ports
+
+-- a dump as far as a run has judged it
+abbrev pub dump_so_far : Run → DumpSoFar
+dump_so_far r = dump_at (is_some r.rejection) (standing r.judge) r.ports.last
+
+-- the whole dump, if this text of its body is left to read
+abbrev pub dump_whole : Run → Reading → List ℕ → DumpSoFar
+dump_whole run r rest = dump_taken run.judge.options.now (dump_so_far run) (samples_of (rows_of run.vcd) r rest)
+
+-- a dump is judged as it is, or it is illegal, and something was found: a run that goes on after a finding may reject it
+abbrev pub IsDumpJudgedAs : DumpSoFar → DumpSoFar → Option Standing → Type 0
+IsDumpJudgedAs dump judged m = (judged ≡ dump) ⊎ ((dump ≡ Illegal) × (m ≡ None))
+
+-- a run has judged these bytes of a body, and reads on
+pub record ReadsOn (old new : Run) (r : Reading) (bytes : List ℕ) : Type 0 where
+  pub after : Reading
+  pub reading : IsReading after new.vcd
+  pub judges : (rest : List ℕ) → dump_whole old r (bytes ++ rest) ≡ dump_whole new after rest
+
+-- a run that ends has judged the whole body, if it is these bytes and this rest
+abbrev pub JudgesBody : Run → Run → Reading → List ℕ → Type 0
+JudgesBody old new r text = IsDumpJudgedAs (dump_whole old r text) (dump_so_far new) (standing new.judge)
+
+-- a run has taken bytes of a body: it reads on, or has judged the whole body, whatever follows
+pub record TakesDump (old new : Run) (r : Reading) (bytes : List ℕ) (goes_on : Bool) : Type 0 where
+  pub reads : goes_on ≡ true → ReadsOn old new r bytes
+  pub stops : goes_on ≡ false → (rest : List ℕ) → JudgesBody old new r (bytes ++ rest)
+  pub stays : StaysFound old new
+  pub once : RunsOnce old new goes_on
+
+-- a dump after the sample that a step completes, if it does
+abbrev pub next_if : Options → Option Shown → DumpSoFar → DumpSoFar
+next_if o None d = d
+next_if o (Some s) d = next_shown o s d
+
+-- a run has taken the sample that its reader reports, if there is one
+pub record TakesNext (old new : Run) (shown : Option Shown) (goes_on : Bool) : Type 0 where
+  pub dump : dump_so_far new ≡ next_if old.judge.options.now shown (dump_so_far old)
+  pub reader : new.vcd ≡ old.vcd
+  pub options : new.judge.options ≡ old.judge.options
+  pub stops : goes_on ≡ false → standing new.judge ≡ None
+  pub stays : StaysFound old new
+  pub once : RunsOnce old new goes_on
+
+-- a run begins with the body of a dump: the header says which lines the dump has
+pub record BeginsBody (old new : Run) (goes_on : Bool) : Type 0 where
+  pub judged : standing new.judge ≡ option_map (with_presence old.vcd.presence) (standing old.judge)
+  pub reader : new.vcd ≡ old.vcd
+  pub ports : new.ports ≡ old.ports
+  pub rejection : new.rejection ≡ old.rejection
+  pub goes : goes_on ≡ true
+
+-- a run for one finding stays one at the end
+abbrev pub EndsOnce : Run → Run → Type 0
+EndsOnce old new = IsOnceRun old → IsGoing old → IsOnceRun new
+
+-- a run has taken the last samples
+pub record TakesLast (old new : Run) (samples : Samples) : Type 0 where
+  pub dump : dump_so_far new ≡ dump_taken old.judge.options.now (dump_so_far old) samples
+  pub stays : StaysFound old new
+  pub once : EndsOnce old new
+
+-- a run has judged a body that ends here
+pub record EndsDump (old new : Run) (r : Reading) : Type 0 where
+  pub judges : JudgesBody old new r []
+  pub stays : StaysFound old new
+  pub once : EndsOnce old new

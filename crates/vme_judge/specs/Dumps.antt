@@ -1,0 +1,127 @@
+-- Which dumps are legal: each sample is judged after those before it, and with it what the boards' local ports have done.
+use Rattle.std.specs.Prelude.{ℕ, ◌+◌, ◌/◌, ◌^◌, ◌%◌, bit_and, Bool, true, not, ◌==◌, ◌&&◌, ◌||◌, if◌then◌else◌, List, [], ◌∷◌, Option, Some, None, is_some, is_none, Result, Ok, Err}
+use Rattle.std.specs.Option.{option_and_then}
+use Rattle.vme_protocol.specs.declared.port.Local.{Local}
+use Rattle.vme_protocol.specs.declared.port.Port.{Port}
+use Rattle.vme_protocol.specs.declared.rule.Rule.{Rule}
+use Rattle.vme_protocol.specs.declared.scope.Scope.{Scope}
+use Rattle.vme_protocol.specs.Ports.{local_between}
+use Rattle.vme_vcd_reader.specs.declared.bus.BusLines.{BusLines}
+use Rattle.vme_vcd_reader.specs.declared.presence.Presence.{Presence}
+use Rattle.vme_vcd_reader.specs.Bodies.{Shown, Samples, Sample, End, Broken as BrokenBody}
+use Rattle.vme_vcd_reader.specs.Buses.{port_of, sample_of, with_slot}
+use Rattle.vme_judge.specs.declared.boards.Board.{Board}
+use Rattle.vme_judge.specs.declared.fault.Status.{Status}
+use Rattle.vme_judge.specs.declared.fault.Status.TheVariants as statuses
+use Rattle.vme_judge.specs.declared.options.Options.{Options}
+use Rattle.vme_judge.specs.Logs.{access_taken}
+use Rattle.vme_judge.specs.Standing.{Standing, sample_taken}
+
+-- slots, and those of boards
+abbrev pub with_boards : ℕ → List Board → ℕ
+with_boards slots [] = slots
+with_boards slots (b ∷ boards) = with_boards (with_slot slots b.slot true) boards
+
+-- the slots of boards, a bit for each: the lowest for slot 1
+abbrev pub slots_of : List Board → ℕ
+slots_of boards = with_boards 0 boards
+
+-- whether a dump has a line of each of some slots
+abbrev pub has_each : ℕ → ℕ → Bool
+has_each lines slots = bit_and lines slots == slots
+
+-- which rules are judged of a dump by the lines that it has: those of BBSY* by what each board drives or by the line of the
+-- bus, and those of grants if each board's requests and grants are there too
+abbrev pub dump_scope : Presence → ℕ → Scope → Scope
+dump_scope p slots scope = record scope {
+  drivers = has_each p.drivers slots;
+  busy = p.busy || has_each p.drivers slots;
+  busy_line = p.busy;
+  grants = has_each p.drivers slots && has_each p.requests slots && has_each p.grants slots;
+}
+
+-- what is remembered once it is known which lines a dump has
+abbrev pub with_presence : Presence → Standing → Standing
+with_presence p m = record m { scope = dump_scope p (slots_of m.boards) m.scope }
+
+-- whether the slot at a place is among slots: slot 1 is at place 0
+abbrev pub is_among : ℕ → ℕ → Bool
+is_among slots place = not (bit_and (slots / 2 ^ (place % 32)) 1 == 0)
+
+-- what is remembered after what the local port of a slot has done: nothing, an access, or what breaks a rule
+abbrev pub done_taken : ℕ → Result (Option Local) Rule → Standing → Option Standing
+done_taken slot (Err rule) m = None
+done_taken slot (Ok None) m = Some m
+done_taken slot (Ok (Some access)) m = access_taken slot access m
+
+-- the same by what the port showed before, if it has shown anything; before the first sample at rest nothing is judged
+abbrev pub port_taken : ℕ → Option Port → Port → Standing → Option Standing
+port_taken slot None now m = Some m
+port_taken slot (Some last) now m = if is_some m.watch then done_taken slot (local_between last now) m else Some m
+
+-- what the local port at a place shows
+abbrev pub port_at : BusLines → ℕ → Port
+port_at lines place = (port_of lines (place + 1)).port
+
+-- what is remembered after what the local ports from a place on have done, of which those of some slots have changed; each by
+-- what it showed before
+abbrev pub ports_taken : BusLines → ℕ → ℕ → List (Option Port) → Standing → Option Standing
+ports_taken lines changed place [] m = Some m
+ports_taken lines changed place (last ∷ ports) m =
+    option_and_then (ports_taken lines changed (place + 1) ports)
+    (if is_among changed place then port_taken (place + 1) last (port_at lines place) m else Some m)
+
+-- what the local ports from a place on have shown then
+abbrev pub ports_after : BusLines → ℕ → ℕ → List (Option Port) → List (Option Port)
+ports_after lines changed place [] = []
+ports_after lines changed place (last ∷ ports) =
+    (if is_among changed place then Some (port_at lines place) else last) ∷ ports_after lines changed (place + 1) ports
+
+-- a dump so far: legal, with what is remembered of it and what each local port has shown; illegal, once a sample or a port
+-- is; or broken, once its text is no body of a dump
+pub data DumpSoFar : Type 0 where
+  Legal : Standing → List (Option Port) → DumpSoFar
+  Illegal : DumpSoFar
+  Broken : DumpSoFar
+
+-- a dump by what is remembered of it, if it is legal
+abbrev pub dump_by : Option Standing → List (Option Port) → DumpSoFar
+dump_by None ports = Illegal
+dump_by (Some m) ports = Legal m ports
+
+-- whether a sample is passed over: no variable has changed, no time is limited, and the samples are judged already
+abbrev pub is_passed : Options → Shown → Standing → Bool
+is_passed o s m = not s.changed && is_none o.timeout && is_some m.watch
+
+-- what is remembered after a sample and what the local ports have done at it
+abbrev pub shown_taken : Shown → List (Option Port) → Standing → Option Standing
+shown_taken s ports m = option_and_then (ports_taken s.lines s.ports 0 ports) (sample_taken (sample_of s.lines s.time) m)
+
+-- a legal dump after a sample
+abbrev pub legal_next : Options → Shown → Standing → List (Option Port) → DumpSoFar
+legal_next o s m ports =
+    if is_passed o s m then Legal m ports else dump_by (shown_taken s ports m) (ports_after s.lines s.ports 0 ports)
+
+-- a dump after a sample; after one that is not legal nothing is judged
+abbrev pub next_shown : Options → Shown → DumpSoFar → DumpSoFar
+next_shown o s (Legal m ports) = legal_next o s m ports
+next_shown o s Illegal = Illegal
+next_shown o s Broken = Broken
+
+-- a dump whose text ends here, since it is no body of a dump
+abbrev pub broken_off : DumpSoFar → DumpSoFar
+broken_off (Legal m ports) = Broken
+broken_off Illegal = Illegal
+broken_off Broken = Broken
+
+-- a dump after samples
+abbrev pub dump_taken : Options → DumpSoFar → Samples → DumpSoFar
+dump_taken o d End = d
+dump_taken o d BrokenBody = broken_off d
+dump_taken o d (Sample s samples) = dump_taken o (next_shown o s d) samples
+
+-- the verdict on a dump: it is rejected too if there is neither a datum nor a local access that is judged
+abbrev pub dump_status : DumpSoFar → Status
+dump_status (Legal m ports) = if m.is_judged then statuses.Legal else statuses.Rejected
+dump_status Illegal = statuses.Illegal
+dump_status Broken = statuses.Rejected

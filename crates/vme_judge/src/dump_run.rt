@@ -1,0 +1,134 @@
+//! A dump, byte by byte.
+ghost use Rattle.std.specs.Prelude.{◌≡◌, [], ◌∷◌, true, false, is_some, Some, IfOk, Option};
+ghost use Rattle.vme_vcd_reader.specs.declared.reader.Step.TheVariants as steps;
+ghost use Rattle.vme_vcd_reader.specs.Bodies.{Reading, Samples, Shown};
+ghost use Rattle.vme_vcd_reader.specs.Readers.{IsReading, ReportsLast, ReportsSample};
+ghost use Rattle.vme_judge.specs.DumpRuns.{shown_by, BeginsBody, EndsDump, TakesDump, TakesLast, TakesNext};
+
+use crate::dump::{set_scope, take_sample};
+use crate::rejection::{Rejection, Why};
+use crate::run::{Run, is_space};
+use std::alloc::AllocError;
+use vme_vcd_reader::{Step, VcdFault};
+
+impl Run<'_> {
+    /// Takes the first bytes of a dump, with the blanks before them.
+    pub(crate) fn begin_dump(&mut self, bytes: &[u8]) -> Result<bool, AllocError> {
+        let place = bytes.iter().position(|byte| !is_space(*byte));
+        let (blanks, text) = bytes.split_at(place.unwrap_or(bytes.len()));
+        if !self.push_blanks(blanks)? {
+            return Ok(false);
+        }
+        self.push_dump_all(text)
+    }
+
+    /// Takes bytes of a dump.
+    pub(crate) fn push_dump_all(&mut self, bytes: &[u8]) -> Result<bool, AllocError>
+        ensures { (r : Reading) → IsReading r self.old.vcd → IfOk result (TakesDump self.old self.new r bytes.now) }
+    {
+        let mut rest = bytes;
+        // A step takes a byte at least.
+        for _step in 0..bytes.len() {
+            let [byte, tail @ ..] = rest else {
+                break;
+            };
+            match self.vcd.push_line(rest) {
+                Ok(None) => {}
+                Ok(Some((step, after))) => {
+                    if !self.take_step(step)? {
+                        return Ok(false);
+                    }
+                    rest = after;
+                    continue;
+                }
+                Err(fault) => return self.reject_dump(fault),
+            }
+            rest = tail;
+            if !self.push_dump(*byte)? {
+                return Ok(false);
+            }
+        }
+        Ok(true)
+    }
+
+    /// Takes a byte of a dump.
+    #[inline]
+    fn push_dump(&mut self, byte: u8) -> Result<bool, AllocError>
+        ensures { (r : Reading) → IsReading r self.old.vcd → IfOk result (TakesDump self.old self.new r (byte ∷ [])) }
+    {
+        match self.vcd.push(byte) {
+            Ok(step) => self.take_step(step),
+            Err(fault) => self.reject_dump(fault),
+        }
+    }
+
+    /// Takes what a dump has completed.
+    #[inline]
+    fn take_step(&mut self, step: Step) -> Result<bool, AllocError>
+        ensures sample { (shown : Option Shown) → ReportsSample shown step self.old.vcd → IfOk result (TakesNext self.old self.new shown) }
+        ensures header { step ≡ steps.Header → IfOk result (BeginsBody self.old self.new) }
+    {
+        match step {
+            Step::More => Ok(true),
+            Step::Header => {
+                set_scope(&mut self.judge, &self.vcd.presence());
+                Ok(true)
+            }
+            Step::Sample => self.take_shown(),
+        }
+    }
+
+    /// Takes the sample that a dump has completed.
+    fn take_shown(&mut self) -> Result<bool, AllocError>
+        ensures { IfOk result (TakesNext self.old self.new (Some (shown_by self.old.vcd))) }
+    {
+        take_sample(&mut self.judge, &mut self.ports, &self.vcd)
+    }
+
+    /// Rejects a dump.
+    fn reject_dump(&mut self, fault: VcdFault) -> Result<bool, AllocError>
+        ensures stops { IfOk result (λ goes_on. goes_on ≡ false) }
+        ensures rejected { IfOk result (λ _. is_some self.new.rejection ≡ true) }
+        ensures judge { IfOk result (λ _. self.new.judge ≡ self.old.judge) }
+    {
+        if fault == VcdFault::Memory {
+            return Err(AllocError);
+        }
+        self.rejection = Some(Rejection {
+            why: Why::Dump(fault),
+            line: Some(self.vcd.line()),
+        });
+        Ok(false)
+    }
+
+    /// Ends a dump, whose last two times may still be open.
+    pub(crate) fn end_dump(&mut self) -> Result<(), AllocError>
+        ensures { (r : Reading) → IsReading r self.old.vcd → IfOk result (λ _. EndsDump self.old self.new r) }
+    {
+        match self.vcd.end() {
+            Ok(step) => self.take_last(step),
+            Err(fault) => {
+                self.reject_dump(fault)?;
+                Ok(())
+            }
+        }
+    }
+
+    /// Takes the last samples of a dump.
+    fn take_last(&mut self, step: Step) -> Result<(), AllocError>
+        ensures { (samples : Samples) → ReportsLast samples step self.old.vcd → IfOk result (λ _. TakesLast self.old self.new samples) }
+    {
+        let Step::Sample = step else {
+            return Ok(());
+        };
+        let goes_on = self.take_shown()?;
+        if !goes_on {
+            return Ok(());
+        }
+        let Step::Sample = self.vcd.last_sample() else {
+            return Ok(());
+        };
+        self.take_shown()?;
+        Ok(())
+    }
+}
