@@ -3,11 +3,14 @@ ghost use Rattle.std.specs.Prelude.{◌≡◌, ◌<◌, ◌≤◌, ◌^◌, Err,
 ghost use Rattle.vme_engines.specs.Faults.{IsInputFault, ReadsWithin, is_read_failure};
 
 use crate::fault::ProgramFault;
-use std::alloc::Global;
+use std::alloc::{AllocError, Global};
 use vme_io::Source;
 
 /// The greatest number of bytes that one call of the reader returns.
 const READ_SIZE: usize = 16_384;
+
+/// The size in bytes of the block that `let_heap_grow` allocates.
+const BLOCK_SIZE: usize = 2_097_152;
 
 /// Reads all bytes of a reader, to the end or to one byte past `limit`, which is below 2^32.
 ///
@@ -31,6 +34,7 @@ pub fn read_input<R: Source>(
     ensures read { R.is_marked reader.new ≡ is_read_failure result }
     ensures faults { IfErr result IsInputFault }
 {
+    let_heap_grow(alloc);
     let mut input = Vec::new(alloc);
     let mut chunk = [0; READ_SIZE];
     loop {
@@ -47,4 +51,11 @@ pub fn read_input<R: Source>(
             return Err(ProgramFault::TooLong);
         }
     }
+}
+
+/// Allocates a block and frees it. After that glibc allocates blocks of up to its size on the heap,
+/// and not each by a mapping of its own, so the memory of the input is used again for what is made
+/// of it: fewer pages are touched for the first time. If the allocation fails, nothing changes.
+fn let_heap_grow(alloc: Global) {
+    let _block: Result<Vec<u8>, AllocError> = Vec::with_capacity(alloc, BLOCK_SIZE);
 }
