@@ -18,7 +18,7 @@ use Rattle.vme_stepper.proofs.Turning.{next_first, line_there}
 
 module _ (config : Configuration) (board : ℕ) where
   -- a line without a call passes
-  begun_answered : (processor : ProcessorView) (line : Line) (answer : LineReply) → processor.at ≡ None → slice_get (lines_at config board) processor.ended ≡ Some line
+  pub begun_answered : (processor : ProcessorView) (line : Line) (answer : LineReply) → processor.at ≡ None → slice_get (lines_at config board) processor.ended ≡ Some line
       → line_to_do (line_begun config board line) ≡ Returns answer
       → processor_begun config board processor ≡ processor_begun config board (processor_answered processor answer)
   begun_answered processor line answer idle found ends = rw (next_first (lines_at config board) processor.ended line found) (rw idle (rw ends refl))

@@ -2,6 +2,7 @@ pub mod Reported
 pub mod Processors
 pub mod Turning
 pub mod Beginning
+pub mod Refused
 pub mod NextBuffers
 pub mod SystemStates
 pub mod Steps

@@ -1,6 +1,8 @@
 -- A turn in two halves: the replies of lines without a call are recorded, and the current line makes its call.
 use Rattle.std.specs.Prelude.{ℕ, List, [], ◌∷◌, drop, slice_get, slice_set, slice_index_or, is_some, Bool, Option, Some, None}
 use Rattle.std.specs.Option.{option_map, option_and_then}
+use Rattle.vme_cycle.specs.declared.fault.CycleFault.{CycleFault}
+use Rattle.vme_cycle.specs.Lawful.{first_refusal}
 use Rattle.vme_core.specs.declared.event.EventReply.{EventReply}
 use Rattle.vme_core.specs.Runs.{Machine}
 use Rattle.vme_core.specs.Calls.{Call, machine_step}
@@ -8,11 +10,17 @@ use Rattle.vme_core.specs.NextSteps.{NextStep, Returns, result_in}
 use Rattle.vme_shared.specs.declared.reply.LineReply.{LineReply}
 use Rattle.vme_shared.specs.declared.reply.LineReply.TheVariants.{Unfinished}
 use Rattle.vme_grammar.specs.declared.line.Line.{Line}
+use Rattle.vme_grammar.specs.declared.line.Line.TheVariants.{Bus}
 use Rattle.vme_script.specs.Configurations.{Configuration}
 use Rattle.vme_line_task.specs.declared.task.LineTask.{LineTask}
 use Rattle.vme_line_task.specs.Scripts.{lines_at}
 use Rattle.vme_line_task.specs.Machine.{line_advance, line_to_do}
 use Rattle.vme_stepper.specs.Steppers.{ProcessorView, StepperView, processor_answered, task_now}
+
+-- the refusal of a line's request over the bus, if it has one
+abbrev pub bus_refusal : Line → Option CycleFault
+bus_refusal (Bus request) = first_refusal request
+bus_refusal line = None
 
 -- a processor with this task at work
 abbrev pub processor_at : ProcessorView → LineTask → ProcessorView

@@ -10,11 +10,13 @@ ghost use Rattle.vme_script.specs.Configurations.{Configuration};
 ghost use Rattle.vme_line_task.specs.declared.task.LineTask.{LineTask as AnyTask};
 ghost use Rattle.vme_line_task.specs.Machine.{line_advance, line_to_do, IsLineBelow};
 ghost use Rattle.vme_stepper.specs.Steppers.{processor_turn, IsProcessorOf, StepsWithin};
-ghost use Rattle.vme_stepper.specs.Lines.{processor_begun, line_in, call_answered};
+ghost use Rattle.vme_stepper.specs.Lines.{processor_begun, line_in, call_answered, bus_refusal};
 
 use std::alloc::{AllocError, Global};
 use std::marker::Model;
 use vme_core::{Core, EventReply};
+use vme_cycle::{CycleFault, Plan};
+use vme_grammar::Line;
 use vme_line_task::{LineTask, ReadBuffers};
 use vme_script::{Config, Script};
 use vme_shared::LineReply;
@@ -61,7 +63,7 @@ impl<'a> Processor<'a> {
         let buffers = ReadBuffers::new(alloc, script)?;
         let mut lines = Vec::with_capacity(alloc, script.len())?;
         for j in 0..script.len() {
-            lines.push((script.number(j), LineReply::Unfinished))?;
+            lines.push_reserved((script.number(j), LineReply::Unfinished));
         }
         Ok(Processor {
             script,
@@ -178,8 +180,14 @@ impl<'a> Processor<'a> {
         ensures over { self.new.at ≡ None → length self.new.lines ≤ self.new.ended }
         ensures begun { self.new ≡ processor_begun config.now board self.old }
     {
+        let mut has_replied = false;
         while self.ended < self.lines.len() {
             let buffer = self.buffers.take();
+            if let Some(fault) = refusal_if(has_replied, self.script.line(self.ended)) {
+                put_answer(&mut self.lines, self.ended, LineReply::Refused(fault));
+                self.ended += 1;
+                continue;
+            }
             let mut task = LineTask::start(config, board, self.ended, buffer);
             task.advance(None);
             if !task.is_finished() {
@@ -189,6 +197,7 @@ impl<'a> Processor<'a> {
             let answer = task.into_reply().unwrap();
             put_answer(&mut self.lines, self.ended, answer);
             self.ended += 1;
+            has_replied = true;
         }
     }
 
@@ -215,6 +224,24 @@ impl<'a> Processor<'a> {
             end_line(&mut self.lines, self.ended, &mut self.task);
             self.ended += 1;
         }
+    }
+}
+
+/// Returns the refusal of a line's request over the bus, if it has one and is asked for. The task of
+/// a lawful request checks it once more, so `seek` asks only after a line that it has replied to.
+fn refusal_if(is_asked: bool, line: &Line) -> Option<CycleFault>
+    ensures { IfSome result (λ fault. bus_refusal line.now ≡ Some fault) }
+{
+    if is_asked { bus_refusal(line) } else { None }
+}
+
+/// Returns the refusal of a line's request over the bus, if it has one. It is the line's reply.
+fn bus_refusal(line: &Line) -> Option<CycleFault>
+    ensures { result ≡ bus_refusal line.now }
+{
+    match line {
+        Line::Bus(request) => Plan::of(request).err(),
+        _ => None,
     }
 }
 
