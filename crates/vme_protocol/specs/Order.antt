@@ -41,7 +41,8 @@ falls_early w s = address_strobe_falls w.last s && (w.scope.busy && s.busy || is
 unfoldable pub rises_early : Watch → Transfer → Sample → Bool
 rises_early w t s =
     address_strobe_rises w.last s
-    && (has_strobe w.last && not (has_answer w.last) && not (has_answer s) || is_strict w.scope && (has_strobe s || not t.answered))
+    && (has_strobe w.last && not (has_answer w.last) && not (has_answer s)
+    || is_strict w.scope && (has_strobe s || not t.answered))
 
 -- whether AM, and the address lines that count, have these levels in a sample
 abbrev pub stands : ℕ → ℕ → ℕ → Sample → Bool

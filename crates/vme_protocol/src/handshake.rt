@@ -1,5 +1,5 @@
 ghost use Rattle.std.specs.Prelude.{◌≡◌, Option};
-ghost use Rattle.vme_protocol.specs.Handshakes.{fresh, moved_after, vague_after, since_after, after_sample, read_lanes, reading_after, reading_at};
+ghost use Rattle.vme_protocol.specs.Handshakes.{fresh, moved_after, vague_after, since_after, after_sample, read_lanes, reading_at};
 
 use crate::datum::Datum;
 use crate::lines::{moved, vague};
@@ -71,38 +71,21 @@ impl Handshake {
         }
     }
 
-    /// Returns what is remembered after a sample of a transfer, as it was before an answer of this
-    /// sample.
+    /// Takes a sample of a transfer, as it was before an answer of this sample.
     #[tactic(auto, unfolding(crate::specs::Handshakes::after_sample))]
-    pub fn after_sample(&self, transfer: &Transfer, before: &Sample, after: &Sample) -> Handshake
-        ensures { result ≡ after_sample self.now transfer.now before.now after.now }
+    pub(crate) fn take(&mut self, transfer: &Transfer, before: &Sample, after: &Sample)
+        ensures { self.new ≡ after_sample self.old transfer.now before.now after.now }
     {
-        let (lanes, reading) = self.reading_after(transfer, before, after);
-        Handshake {
-            since: self.since_after(before, after),
-            moved: self.moved_after(before, after),
-            vague: self.vague_after(before, after),
-            lanes,
-            reading,
-        }
-    }
-
-    fn reading_after(
-        &self,
-        transfer: &Transfer,
-        before: &Sample,
-        after: &Sample,
-    ) -> (u64, Option<Datum>)
-        ensures { result ≡ reading_after self.now transfer.now before.now after.now }
-    {
+        self.since = self.since_after(before, after);
+        self.moved = self.moved_after(before, after);
+        self.vague = self.vague_after(before, after);
         if answer_falls(before, after) {
             let reading = reading_at(transfer, transfer.place_of(after), after);
-            let lanes = read_lanes(transfer, after, reading);
-            (lanes, reading)
+            self.lanes = read_lanes(transfer, after, reading);
+            self.reading = reading;
         } else if strobe_rises(before, after) {
-            (0, None)
-        } else {
-            (self.lanes, self.reading)
+            self.lanes = 0;
+            self.reading = None;
         }
     }
 }

@@ -90,40 +90,37 @@ impl Transfer {
         self.wide && !self.addressed && !s.dtack
     }
 
-    /// Returns the transfer after an answer, which is that of a datum at a place, if at one.
+    /// Takes an answer, which is that of a datum at a place, if at one.
     #[tactic(auto, unfolding(crate::specs::Transfers::after_answer))]
-    pub fn after_answer(&self, place: Option<Place>, s: &Sample) -> Transfer
-        ensures { result ≡ after_answer self.now place s.now }
+    pub(crate) fn answer(&mut self, place: Option<Place>, s: &Sample)
+        ensures { self.new ≡ after_answer self.old place s.now }
     {
         match place {
-            Some(place) if !self.is_address_phase(s) => self.took(&place, s),
-            _ => Transfer {
-                answered: true,
-                addressed: true,
-                ..*self
-            },
+            Some(place) if !self.is_address_phase(s) => self.take(&place, s),
+            _ => {
+                self.answered = true;
+                self.addressed = true;
+            }
         }
     }
 
-    /// The transfer after a datum.
+    /// Takes a datum.
     #[tactic(auto, unfolding(crate::specs::Transfers::took))]
-    fn took(&self, place: &Place, s: &Sample) -> Transfer
-        ensures { result ≡ took self.now place.now s.now }
+    fn take(&mut self, place: &Place, s: &Sample)
+        ensures { self.new ≡ took self.old place.now s.now }
     {
-        let is_first = self.count == 0;
-        Transfer {
-            answered: true,
-            addressed: true,
-            failed: self.failed || s.dtack,
-            count: self.count.saturating_add(1),
-            first: if is_first { place.addr } else { self.first },
-            next: place.addr.wrapping_add(u32::from(place.len)),
-            len: place.len,
-            write: if is_first { s.write } else { self.write },
-            ds1: s.ds1,
-            ds0: s.ds0,
-            ..*self
+        if self.count == 0 {
+            self.first = place.addr;
+            self.write = s.write;
         }
+        self.answered = true;
+        self.addressed = true;
+        self.failed = self.failed || s.dtack;
+        self.count = self.count.saturating_add(1);
+        self.next = place.addr.wrapping_add(u32::from(place.len));
+        self.len = place.len;
+        self.ds1 = s.ds1;
+        self.ds0 = s.ds0;
     }
 }
 

@@ -1,5 +1,5 @@
 ghost use Rattle.std.specs.Prelude.{◌≡◌, Option};
-ghost use Rattle.vme_protocol.specs.Watching.{started, current, transfer_after, watched, shown, written_at, lines_broken, handshake_broken, transfer_broken, broken, answer_of, next_watch};
+ghost use Rattle.vme_protocol.specs.Watching.{started, current, watched, shown, written_at, lines_broken, handshake_broken, transfer_broken, broken, answer_of, next_watch};
 
 use crate::arbitration::{breaks_grants, two_hold};
 use crate::datum::Datum;
@@ -54,7 +54,7 @@ impl Watch {
             return Err(rule);
         }
         let datum = self.shown(s);
-        *self = self.watched(s);
+        self.take(s);
         Ok(datum)
     }
 
@@ -63,14 +63,26 @@ impl Watch {
     pub fn broken(&self, s: &Sample) -> Option<Rule>
         ensures { result ≡ broken self.now s.now }
     {
-        let transfer = self.current(s);
-        if let Some(rule) = self.lines_broken(&transfer, s) {
+        if address_strobe_falls(&self.last, s) {
+            let transfer = Transfer::opened(&self.scope, s);
+            return self.broken_in(&transfer, s);
+        }
+        self.broken_in(&self.transfer, s)
+    }
+
+    /// The first rule that a sample of a transfer breaks.
+    #[tactic(auto, unfolding(crate::specs::Watching::broken))]
+    fn broken_in(&self, t: &Transfer, s: &Sample) -> Option<Rule>
+        requires { t.now ≡ current self.now s.now }
+        ensures { result ≡ broken self.now s.now }
+    {
+        if let Some(rule) = self.lines_broken(t, s) {
             return Some(rule);
         }
-        if let Some(rule) = self.handshake_broken(&transfer, s) {
+        if let Some(rule) = self.handshake_broken(t, s) {
             return Some(rule);
         }
-        self.transfer_broken(&transfer, s)
+        self.transfer_broken(t, s)
     }
 
     /// The first rule of AS*, the address, BBSY* and defined lines that a sample breaks.
@@ -156,28 +168,20 @@ impl Watch {
         }
     }
 
-    fn transfer_after(&self, s: &Sample) -> Transfer
-        ensures { result ≡ transfer_after self.now s.now }
-    {
-        let transfer = self.current(s);
-        if answer_falls(&self.last, s) {
-            transfer.after_answer(transfer.place_of(s), s)
-        } else {
-            transfer
-        }
-    }
-
-    /// What is remembered after a sample.
+    /// Takes a sample that breaks no rule.
     #[tactic(auto, unfolding(crate::specs::Watching::watched))]
-    fn watched(&self, s: &Sample) -> Watch
-        ensures { result ≡ watched self.now s.now }
+    fn take(&mut self, s: &Sample)
+        ensures { self.new ≡ watched self.old s.now }
     {
-        Watch {
-            scope: self.scope,
-            last: *s,
-            transfer: self.transfer_after(s),
-            handshake: self.handshake.after_sample(&self.current(s), &self.last, s),
+        if address_strobe_falls(&self.last, s) {
+            self.transfer = Transfer::opened(&self.scope, s);
         }
+        self.handshake.take(&self.transfer, &self.last, s);
+        if answer_falls(&self.last, s) {
+            let place = self.transfer.place_of(s);
+            self.transfer.answer(place, s);
+        }
+        self.last = *s;
     }
 
     /// The datum that a sample shows.
