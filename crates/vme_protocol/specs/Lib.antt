@@ -10,3 +10,4 @@ pub mod Exchange
 pub mod Watching
 pub mod Verdicts
 pub mod Ports
+pub mod Rules

@@ -1,3 +1,6 @@
+ghost use Rattle.std.specs.Prelude.{◌≡◌};
+ghost use Rattle.vme_protocol.specs.Rules.{code, section, text};
+
 /// A rule of a trace, J1 to J24.
 #[derive(Clone, Copy, Debug, PartialEq, Eq)]
 pub enum Rule {
@@ -47,7 +50,9 @@ pub enum Rule {
 
 impl Rule {
     /// Returns the number of the rule.
-    pub fn code(self) -> u8 {
+    pub fn code(self) -> u8
+        ensures { result ≡ code self }
+    {
         match self {
             Rule::Undefined => 1,
             Rule::CodeUnknown => 2,
@@ -74,7 +79,9 @@ impl Rule {
     }
 
     /// Returns the section of the standard that has the rule; none for that of local ports.
-    pub fn section(self) -> &'static str {
+    pub fn section(self) -> &'static str
+        ensures { result.now ≡ section self }
+    {
         match self {
             Rule::Undefined => "2.2",
             Rule::CodeUnknown => "2.2.2",
@@ -100,7 +107,9 @@ impl Rule {
     }
 
     /// Returns what breaks the rule, in words.
-    pub fn text(self) -> &'static str {
+    pub fn text(self) -> &'static str
+        ensures { result.now ≡ text self }
+    {
         match self {
             Rule::Undefined => "a line is undefined",
             Rule::CodeUnknown => "the address modifier code is reserved or user-defined",

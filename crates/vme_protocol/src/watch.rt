@@ -168,7 +168,7 @@ impl Watch {
         }
     }
 
-    /// Takes a sample that breaks no rule.
+    /// Takes a sample that breaks no rule: what is remembered of the transfer changes in place.
     #[tactic(auto, unfolding(crate::specs::Watching::watched))]
     fn take(&mut self, s: &Sample)
         ensures { self.new ≡ watched self.old s.now }
