@@ -1,15 +1,16 @@
 -- The lines of a text that is read byte by byte.
-use Rattle.std.proofs.Common.{◌≡◌, ℕ, ◌<◌, Bool, true, false, not, ◌==◌, nat_le, List, [], ◌∷◌, ◌++◌, length, map, All, Option, None, Result, Ok, Err, IsErr, refl, ap, sym, ◌∙◌, append_assoc, append-nil, arith, length-append, le-leb, ne_eqb, ◌≢◌}
+use Rattle.std.proofs.Common.{◌≡◌, ℕ, ◌<◌, Bool, true, false, not, ◌==◌, nat_le, List, [], ◌∷◌, ◌++◌, length, map, get_or, take, ◌+◌, All, Option, None, Result, Ok, Err, IsErr, refl, ap, sym, ◌∙◌, append_assoc, append-nil, arith, length-append, le-leb, ne_eqb, ◌≢◌}
 use Rattle.std.specs.Prelude.{if◌then◌else◌}
 use Rattle.std.specs.List.{slice_split, onto_first}
 use Rattle.std.specs.Result.{result_ok}
 use Rattle.std.proofs.lemmas.Bool.{lt-leb}
 use Rattle.std.proofs.lemmas.List.Elements.{All-nil, All-cons, All-head, All-tail, All-append}
 use Rattle.std.proofs.lemmas.List.Splits.{slice_split-cons_no, slice_split_at, slice_split_none, length-slice_split}
+use Rattle.std.proofs.lemmas.List.{take_more}
 use Rattle.std.proofs.lemmas.List.Sums.{take_while-cons}
 use Rattle.vme_bus_log.specs.declared.entry.LogEntry.{LogEntry}
 use Rattle.vme_bus_log.specs.Entries.{entry_of}
-use Rattle.vme_bus_log.specs.Texts.{without_comment, line_says, log_says, SaysAs, line_so_far, IsKept}
+use Rattle.vme_bus_log.specs.Texts.{without_comment, line_says, log_says, EndsNoLine, SaysAs, line_so_far, IsKept}
 
 -- the byte ends no line
 abbrev Within : ℕ → Type 0
@@ -56,7 +57,7 @@ before_first byte rest this =
     take_while-cons (λ b. not (b == 35)) byte rest ∙ ap (λ test. if not test then byte ∷ without_comment rest else []) this
 
 -- a line whose begin has no comment, without its comment
-before_begun : (begin tail : List ℕ) → All Before begin → without_comment (begin ++ tail) ≡ begin ++ without_comment tail
+pub before_begun : (begin tail : List ℕ) → All Before begin → without_comment (begin ++ tail) ≡ begin ++ without_comment tail
 before_begun [] tail before = refl
 before_begun (x ∷ xs) tail before =
     before_first x (xs ++ tail) (All-head Before x xs before) ∙ ap (λ ys. x ∷ ys) (before_begun xs tail (All-tail Before x xs before))
@@ -225,3 +226,26 @@ goes_past_limit line kept long comment byte is kept_is test full within before =
     let same : line ≡ line_so_far kept long false = sym is ∙ ap (line_so_far kept long) test in
     ap (λ begin. log_says ((begin ++ byte ∷ []) ++ rest)) same ∙ past_limit kept long byte kept_is full within before rest
     ∙ sym (ap (λ test. log_says (line_so_far kept true test ++ rest)) test)
+
+-- a line of which one more byte is taken
+pub says_more : (old mid new part : List ℕ) (i b d : ℕ) → i < length part → b ≡ get_or part i d → SaysAs (old ++ take i part) mid
+    → SaysAs (mid ++ b ∷ []) new → SaysAs (old ++ take (i + 1) part) new
+says_more old mid new part i b d less is one two = λ rest.
+    ap (λ xs. log_says ((old ++ xs) ++ rest)) (take_more part i d less ∙ ap (λ x. take i part ++ x ∷ []) (sym is))
+    ∙ ap log_says
+    (ap (λ xs. xs ++ rest) (sym (append_assoc old (take i part) (b ∷ []))) ∙ append_assoc (old ++ take i part) (b ∷ []) rest)
+    ∙ one (b ∷ rest) ∙ ap log_says (sym (append_assoc mid (b ∷ []) rest)) ∙ two rest
+
+-- a line of which nothing was taken before
+pub whole_line : (line part : List ℕ) (said : Option LogEntry) → line ≡ [] → EndsNoLine part → said ≡ line_says part
+    → (rest : List ℕ) → log_says (line ++ (part ++ 10 ∷ rest)) ≡ said ∷ log_says rest
+whole_line line part said empty within says rest =
+    ap (λ begin. log_says (begin ++ (part ++ 10 ∷ rest))) empty
+    ∙ ap (map line_says) (slice_split_at (λ b. b == 10) part 10 rest within refl) ∙ ap (λ first. first ∷ log_says rest) (sym says)
+
+-- a line of which a begin was taken before
+pub kept_line : (line part kept : List ℕ) (said : Option LogEntry) → SaysAs (line ++ part) kept
+    → ((rest : List ℕ) → log_says (kept ++ 10 ∷ rest) ≡ said ∷ log_says rest)
+    → (rest : List ℕ) → log_says (line ++ (part ++ 10 ∷ rest)) ≡ said ∷ log_says rest
+kept_line line part kept said says ends rest =
+    ap log_says (sym (append_assoc line part (10 ∷ rest))) ∙ says (10 ∷ rest) ∙ ends rest

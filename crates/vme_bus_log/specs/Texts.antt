@@ -1,5 +1,5 @@
 -- The text of a bus log: its lines, and what each of them says.
-use Rattle.std.specs.Prelude.{◌≡◌, ℕ, ◌≤◌, nat_le, Bool, true, false, not, ◌==◌, if◌then◌else◌, List, [], ◌∷◌, ◌++◌, length, map, Option, None}
+use Rattle.std.specs.Prelude.{◌≡◌, ℕ, ◌<◌, ◌≤◌, nat_le, Bool, true, false, not, ◌==◌, if◌then◌else◌, List, [], ◌∷◌, ◌++◌, length, map, Option, None}
 use Rattle.std.specs.List.{All, slice_split, take_while}
 use Rattle.vme_bus_log.specs.declared.entry.LogEntry.{LogEntry}
 use Rattle.vme_bus_log.specs.Entries.{entry_of}
@@ -15,6 +15,16 @@ line_says line = if nat_le (length (without_comment line)) 255 then entry_of (wi
 -- what each line of a text says; a line ends with a line feed, the last one with the text
 abbrev pub log_says : List ℕ → List (Option LogEntry)
 log_says text = map line_says (slice_split (λ b. b == 10) text)
+
+-- a text has no line feed
+abbrev pub EndsNoLine : List ℕ → Type 0
+EndsNoLine text = All (λ b. (b == 10) ≡ false) text
+
+-- a text is cut at its first line feed, into the line before it and the text after it
+pub record IsLineOf (text line after : List ℕ) : Type 0 where
+  pub within : EndsNoLine line
+  pub parts : text ≡ line ++ 10 ∷ after
+  pub shorter : length after < length text
 
 -- two begins of a line say the same, whatever text follows them
 abbrev pub SaysAs : List ℕ → List ℕ → Type 0

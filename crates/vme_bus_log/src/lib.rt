@@ -2,6 +2,7 @@
 //! by a local port. The crate reads and prints lines; it judges nothing.
 #![tactic(auto)]
 
+mod cut;
 mod entry;
 mod fault;
 mod fields;
@@ -11,6 +12,7 @@ mod print;
 mod reader;
 mod word;
 
+pub use cut::cut_line;
 pub use entry::{LogAccess, LogDatum, LogEntry};
 pub use fault::LogFault;
 pub use parse::parse_entry;

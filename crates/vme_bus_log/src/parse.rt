@@ -6,16 +6,31 @@ ghost use Rattle.vme_lexer.specs.Numbers.{hex_number};
 ghost use Rattle.vme_bus_log.specs.Words.{next_word};
 ghost use Rattle.vme_bus_log.specs.Fields.{reads};
 ghost use Rattle.vme_bus_log.specs.Entries.{modifier_in, names_in, levels_in, answer_word, slot_in, holder_by, answer_in, datum_in, direction, bytes_of, access_names_in, access_bytes_in, said_access, said_by, entry_of};
+ghost use Rattle.vme_bus_log.specs.Texts.{line_says};
 
+use crate::cut::without_comment;
 use crate::entry::{LogAccess, LogDatum, LogEntry};
 use crate::fault::LogFault;
 use crate::fields::Fields;
 use crate::parts::{Answer, Levels, Names};
+use crate::reader::LINE_LIMIT;
 use crate::word::decimal;
 use vme_lexer::hex_number;
 
 /// The greatest slot.
 const LAST_SLOT: u32 = 21;
+
+/// Returns what a whole line says.
+#[tactic(auto, unfolding(crate::specs::Texts::line_says))]
+pub(crate) fn parse_line(line: &[u8]) -> Result<LogEntry, LogFault>
+    ensures { result_ok result ≡ line_says line.now }
+{
+    let line = without_comment(line);
+    if LINE_LIMIT < line.len() {
+        return Err(LogFault::LineTooLong);
+    }
+    parse_entry(line)
+}
 
 /// Returns what a line says, without its end and its comment.
 ///

@@ -1,19 +1,20 @@
-//! The lines of a log, byte by byte.
-ghost use Rattle.std.specs.Prelude.{◌≡◌, ◌≢◌, ◌+◌, ◌-◌, ◌^◌, List, ℕ, [], ◌∷◌, ◌++◌, Ok, min, OnOk, OnErr};
+//! The lines of a log, of which a text comes in pieces.
+ghost use Rattle.std.specs.Prelude.{◌≡◌, ◌≢◌, true, ◌+◌, ◌-◌, ◌^◌, List, ℕ, [], ◌∷◌, ◌++◌, Ok, min, OnOk, OnErr};
 ghost use Rattle.std.specs.Result.{result_ok};
 ghost use Rattle.vme_bus_log.specs.declared.entry.LogEntry.TheVariants.{Nothing};
-ghost use Rattle.vme_bus_log.specs.Texts.{log_says, SaysAs};
+ghost use Rattle.vme_bus_log.specs.Texts.{log_says, EndsNoLine, SaysAs};
 
 use crate::entry::LogEntry;
 use crate::fault::LogFault;
-use crate::parse::parse_entry;
+use crate::parse::{parse_entry, parse_line};
 use arrayvec::ArrayVec;
 use std::marker::Model;
 
 /// The greatest number of bytes of a line, without its comment.
 pub const LINE_LIMIT: usize = 255;
 
-/// A reader of a log: it takes the bytes of a text one after another, and keeps one line.
+/// A reader of a log: it takes the lines of a text one after another, and keeps the begin of one that
+/// is not at its end.
 #[derive(Drop)]
 pub struct LogReader {
     line: ArrayVec<u8, LINE_LIMIT>,
@@ -52,28 +53,60 @@ impl LogReader {
         self.number
     }
 
-    /// Takes a byte, and returns what a line says if the byte ends it.
+    /// Takes bytes of a line, none of which ends it.
+    #[tactic(auto, using(crate::proofs::Lines::says_more))]
+    pub fn keep_all(&mut self, part: &[u8])
+        requires { EndsNoLine part.now }
+        ensures begin { SaysAs (self.old.line ++ part.now) self.new.line }
+        ensures number { self.new.number ≡ self.old.number }
+    {
+        for byte in part {
+            self.keep(*byte);
+        }
+    }
+
+    /// Takes the rest of a line, without its line feed, and returns what the line says. A line of
+    /// which nothing was taken before is read where it lies.
     ///
     /// # Errors
     ///
     /// Why the line is none of a bus log. `number` is then its number.
-    pub fn push(&mut self, byte: u8) -> Result<LogEntry, LogFault>
-        ensures within { byte ≢ 10 → result ≡ Ok Nothing }
-        ensures begin { byte ≢ 10 → SaysAs (self.old.line ++ byte ∷ []) self.new.line }
-        ensures number { byte ≢ 10 → self.new.number ≡ self.old.number }
-        ensures ends { byte ≡ 10 → (rest : List ℕ) →
-            log_says (self.old.line ++ byte ∷ rest) ≡ result_ok result ∷ log_says rest }
-        ensures next { byte ≡ 10 → OnOk result (self.new ≡
+    pub fn end_with(&mut self, part: &[u8]) -> Result<LogEntry, LogFault>
+        requires { EndsNoLine part.now }
+        ensures ends { (rest : List ℕ) →
+            log_says (self.old.line ++ (part.now ++ 10 ∷ rest)) ≡ result_ok result ∷ log_says rest }
+        ensures next { OnOk result (self.new ≡
             record { line = []; number = min (self.old.number + 1) (2 ^ 64 - 1) }) }
-        ensures fault { OnErr result (self.new ≡ self.old) }
+        ensures number { OnErr result (self.new.number ≡ self.old.number) }
     {
-        if byte == b'\n' {
-            let entry = self.end()?;
+        let ended = self.ended_with(part);
+        if ended.is_ok() {
             self.number = self.number.saturating_add(1);
-            return Ok(entry);
         }
-        self.keep(byte);
-        Ok(LogEntry::Nothing)
+        ended
+    }
+
+    /// What a line says that has this rest.
+    #[tactic(auto, using(crate::proofs::Lines::whole_line, crate::proofs::Lines::kept_line))]
+    fn ended_with(&mut self, part: &[u8]) -> Result<LogEntry, LogFault>
+        requires { EndsNoLine part.now }
+        ensures ends { (rest : List ℕ) →
+            log_says (self.old.line ++ (part.now ++ 10 ∷ rest)) ≡ result_ok result ∷ log_says rest }
+        ensures next { OnOk result (self.new ≡ record { line = []; number = self.old.number }) }
+        ensures number { OnErr result (self.new.number ≡ self.old.number) }
+    {
+        if self.is_fresh() {
+            return parse_line(part);
+        }
+        self.keep_all(part);
+        self.end()
+    }
+
+    /// Whether no byte of the line was taken before.
+    fn is_fresh(&self) -> bool
+        ensures { result ≡ true → self.now.line ≡ [] }
+    {
+        self.line.is_empty() && !self.is_comment && !self.is_long
     }
 
     /// Takes a byte within a line: it is kept unless it is part of a comment or past the limit.

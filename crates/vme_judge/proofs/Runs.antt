@@ -1,14 +1,11 @@
 -- A log that is judged while it is read.
-use Rattle.std.proofs.Common.{◌≡◌, ℕ, ◌+◌, ◌<◌, length, get_or, take, drop, take-append-drop, Bool, true, false, ◌||◌, inl, inr, List, [], ◌∷◌, ◌++◌, append_assoc, append-nil, ◌==◌, ◌≢◌, eqb-true, subst, Option, Some, None, Result, Ok, Err, IfSome, is_some, refl, ap, sym, ◌∙◌}
+use Rattle.std.proofs.Common.{◌≡◌, ℕ, Bool, true, false, ◌||◌, inl, inr, List, [], ◌∷◌, ◌++◌, append_assoc, append-nil, ◌≢◌, subst, Option, Some, None, IfSome, is_some, refl, ap, sym, ◌∙◌}
 use Rattle.std.specs.Option.{option_and_then}
-use Rattle.std.proofs.lemmas.Bool.{cases_Bool, eqb-false}
 use Rattle.vme_bus_log.specs.declared.entry.LogAccess.{LogAccess}
 use Rattle.vme_bus_log.specs.Texts.{log_says, Reading, SaysAs}
-use Rattle.vme_bus_log.specs.declared.fault.LogFault.{LogFault}
 use Rattle.vme_bus_log.specs.declared.entry.LogDatum.{LogDatum}
 use Rattle.vme_bus_log.specs.declared.entry.LogEntry.{LogEntry}
 use Rattle.vme_bus_log.specs.declared.entry.LogEntry.TheVariants as entries
-use Rattle.std.proofs.lemmas.List.{take_more}
 use Rattle.vme_judge.specs.declared.judge.Judge.{Judge}
 use Rattle.vme_judge.specs.declared.log.LogState.{LogState}
 use Rattle.vme_judge.specs.declared.log.Taken.{Taken}
@@ -16,7 +13,7 @@ use Rattle.vme_judge.specs.declared.log.Taken.TheVariants as takens
 use Rattle.vme_judge.specs.declared.run.Run.{Run}
 use Rattle.vme_judge.specs.Standing.{Standing, standing}
 use Rattle.vme_judge.specs.Logs.{LogSoFar, Legal, Illegal, Broken, is_broken, so_far, shown_by, access_taken, local_of, line_taken, next_taken, log_taken}
-use Rattle.vme_judge.specs.Runs.{run_so_far, log_whole, IsJudgedAs, IsOver, Judges, StaysFound, TakesLine}
+use Rattle.vme_judge.specs.Runs.{run_so_far, log_whole, IsJudgedAs, IsOver, Judges, StaysFound, TakesLine, JudgesLine}
 
 -- an illegal log stays illegal
 pub stays_illegal : (lines : List (Option LogEntry)) → log_taken Illegal lines ≡ Illegal
@@ -27,12 +24,6 @@ stays_illegal (line ∷ lines) = stays_illegal lines
 pub stays_broken : (lines : List (Option LogEntry)) → log_taken Broken lines ≡ Broken
 stays_broken [] = refl
 stays_broken (line ∷ lines) = stays_broken lines
-
--- a line that says nothing changes nothing
-pub nothing_said : (log : LogSoFar) → log ≡ next_taken log (Some entries.Nothing)
-nothing_said (Legal m last) = refl
-nothing_said Illegal = refl
-nothing_said Broken = refl
 
 -- a line that is none of a log breaks it, unless it is illegal already
 pub rejects : (rejected : Bool) (old new : Option Standing) (last : Option LogDatum) → new ≡ old
@@ -83,46 +74,6 @@ pub access_stays : (broken : Bool) (old new : Option Standing) (last next : Opti
 access_stays broken old new last next a taken none =
     illegal_is_none broken new next (taken ∙ ap (λ m. shown_by last (option_and_then (access_taken a.slot (local_of a)) m)) none)
 
-module _ (log new : LogSoFar) (n : Option Standing) (line next : List ℕ) (byte : ℕ) where
-  -- a byte that ends a line of a log
-  byte_ends : (said : Option LogEntry) → IsJudgedAs (next_taken log said) new n → (rest : List ℕ)
-      → log_says (line ++ byte ∷ rest) ≡ said ∷ log_says rest → next ≡ []
-      → IsJudgedAs (log_taken log (log_says (line ++ byte ∷ rest))) (log_taken new (log_says (next ++ rest))) n
-  byte_ends said judged rest ends empty =
-      rw (ends, empty) (lines_left (next_taken log said) new n (log_says rest) judged)
-
-  -- a byte within a line of a log
-  byte_within : IsJudgedAs log new n → (rest : List ℕ) → SaysAs (line ++ byte ∷ []) next
-      → IsJudgedAs (log_taken log (log_says (line ++ byte ∷ rest))) (log_taken new (log_says (next ++ rest))) n
-  byte_within judged rest says =
-      let same : log_says (line ++ byte ∷ rest) ≡ log_says (next ++ rest) =
-      ap log_says (sym (append_assoc line (byte ∷ []) rest)) ∙ says rest in
-      rw same (lines_left log new n (log_says (next ++ rest)) judged)
-
-  -- a byte after which a line is taken
-  pub byte_taken : (entry : LogEntry) → IsJudgedAs (next_taken log (Some entry)) new n → (byte ≢ 10 → entry ≡ entries.Nothing)
-      → (byte ≢ 10 → SaysAs (line ++ byte ∷ []) next)
-      → (byte ≡ 10 → (rest : List ℕ) → log_says (line ++ byte ∷ rest) ≡ Some entry ∷ log_says rest) → (byte ≡ 10 → next ≡ [])
-      → (rest : List ℕ) → IsJudgedAs (log_taken log (log_says (line ++ byte ∷ rest))) (log_taken new (log_says (next ++ rest))) n
-  byte_taken entry judged nothing within ends empty rest =
-      elim (cases_Bool (byte == 10)) [
-        | inl ended ↦
-            let is = eqb-true byte 10 ended in
-            byte_ends (Some entry) judged rest (ends is rest) (empty is)
-        | inr other ↦
-            let no = eqb-false byte 10 other in
-            let none : next_taken log (Some entry) ≡ log =
-            ap (λ entry. next_taken log (Some entry)) (nothing no) ∙ sym (nothing_said log) in
-            byte_within (subst (λ before. IsJudgedAs before new n) none judged) rest (within no)
-      ]
-
-  -- a byte that ends a line that is none of a log
-  pub byte_rejected : IsJudgedAs (next_taken log None) Broken n → (rest : List ℕ) → log_says (line ++ byte ∷ rest) ≡ None ∷ log_says rest
-      → IsJudgedAs (log_taken log (log_says (line ++ byte ∷ rest))) (log_taken Broken (log_says (next ++ rest))) n
-  byte_rejected judged rest ends =
-      rw (ends, stays_broken (log_says (next ++ rest)), sym (stays_broken (log_says rest)))
-      (lines_left (next_taken log None) Broken n (log_says rest) judged)
-
 -- the same judged log
 pub judged_same : (log a b : LogSoFar) (m n : Option Standing) → IsJudgedAs log a m → a ≡ b → m ≡ n → IsJudgedAs log b n
 judged_same log a b m n (inl same) is now = inl (sym is ∙ same)
@@ -171,58 +122,64 @@ is_over new mid takens.Illegal rejected judge is other none =
 is_over new mid (takens.Broken why) rejected judge is other none =
     over_rejected (is_some new.rejection) (standing new.judge) new.state.last is
 
--- a run that has judged one more byte
-pub judges_more : (old mid new : Run) (bytes : List ℕ) (i b d : ℕ) → i < length bytes → b ≡ get_or bytes i d → Judges old mid (take i bytes)
-    → Judges mid new (b ∷ []) → StaysFound mid new → Judges old new (take (i + 1) bytes)
-judges_more old mid new bytes i b d less is one two stays = λ rest.
-    let all : take (i + 1) bytes ++ rest ≡ take i bytes ++ b ∷ rest =
-    ap (λ list. list ++ rest) (take_more bytes i d less ∙ ap (λ x. take i bytes ++ x ∷ []) (sym is)) ∙ append_assoc (take i bytes) (b ∷ []) rest in
-    subst (λ text. IsJudgedAs (log_whole old text) (log_whole new rest) (standing new.judge)) (sym all)
-    (judged_on _ _ _ _ _ (one (b ∷ rest)) (two rest) stays)
+-- a run of which these bytes of a log are left to judge
+abbrev pub Leaves : Run → Run → List ℕ → List ℕ → Type 0
+Leaves old new bytes left =
+    (rest : List ℕ) → IsJudgedAs (log_whole old (bytes ++ rest)) (log_whole new (left ++ rest)) (standing new.judge)
+
+-- a run that has judged one more line
+pub leaves_after : (old mid new : Run) (bytes left line after : List ℕ) → Leaves old mid bytes left → left ≡ line ++ 10 ∷ after
+    → JudgesLine mid new line → StaysFound mid new → Leaves old new bytes after
+leaves_after old mid new bytes left line after one parts two stays = λ rest.
+    let all : left ++ rest ≡ line ++ 10 ∷ (after ++ rest) =
+    ap (λ text. text ++ rest) parts ∙ append_assoc line (10 ∷ after) rest in
+    judged_on _ _ _ _ _
+    (subst (λ text. IsJudgedAs (log_whole old (bytes ++ rest)) (log_whole mid text) (standing mid.judge)) all (one rest))
+    (two (after ++ rest)) stays
 
 -- a run that is over has judged all bytes
-pub judges_all : (old new : Run) (bytes : List ℕ) (i : ℕ) → Judges old new (take i bytes) → IsOver (run_so_far new) → Judges old new bytes
-judges_all old new bytes i judges over = λ rest.
-    let all : take i bytes ++ (drop i bytes ++ rest) ≡ bytes ++ rest =
-    sym (append_assoc (take i bytes) (drop i bytes) rest) ∙ ap (λ list. list ++ rest) (take-append-drop i bytes) in
+pub judges_all : (old new : Run) (bytes left : List ℕ) → Leaves old new bytes left → IsOver (run_so_far new) → Judges old new bytes
+judges_all old new bytes left judges over = λ rest.
+    judged_same _ _ _ _ _ (judges rest) (over (log_says (new.log.line ++ (left ++ rest))) ∙ sym (over (log_says (new.log.line ++ rest)))) refl
+
+-- a run that keeps the begin of a line has judged all bytes
+pub judges_kept : (old mid new : Run) (read : Reading) (bytes left : List ℕ) → Leaves old mid bytes left → run_so_far new ≡ run_so_far mid
+    → standing new.judge ≡ standing mid.judge → new.log ≡ read → SaysAs (mid.log.line ++ left) read.line → Judges old new bytes
+judges_kept old mid new read bytes left judges same stands log says = λ rest.
+    let lines : log_says (mid.log.line ++ (left ++ rest)) ≡ log_says (new.log.line ++ rest) =
+    ap log_says (sym (append_assoc mid.log.line left rest)) ∙ says rest ∙ ap (λ (r : Reading). log_says (r.line ++ rest)) (sym log) in
+    judged_same _ _ _ _ _ (judges rest)
+    (ap (λ log. log_taken log (log_says (mid.log.line ++ (left ++ rest)))) (sym same) ∙ ap (log_taken (run_so_far new)) lines)
+    (sym stands)
+
+-- a run that has judged the rest of a line
+pub line_pushed : (old mid new : Run) (read : Reading) (line : List ℕ) (said : Option LogEntry) → run_so_far mid ≡ run_so_far old
+    → TakesLine mid new said → new.log ≡ read
+    → ((rest : List ℕ) → log_says (old.log.line ++ (line ++ 10 ∷ rest)) ≡ said ∷ log_says rest) → read.line ≡ []
+    → JudgesLine old new line
+line_pushed old mid new read line said same taken log ends empty = λ rest.
+    let left : log_says rest ≡ log_says (new.log.line ++ rest) =
+    ap (λ begin. log_says (begin ++ rest)) (sym (ap (λ (r : Reading). r.line) log ∙ empty)) in
     judged_same _ _ _ _ _
-    (subst (λ text. IsJudgedAs (log_whole old text) (log_whole new (drop i bytes ++ rest)) (standing new.judge)) all (judges (drop i bytes ++ rest)))
-    (over (log_says (new.log.line ++ (drop i bytes ++ rest))) ∙ sym (over (log_says (new.log.line ++ rest)))) refl
+    (subst (λ before. IsJudgedAs before (log_taken (run_so_far new) (log_says rest)) (standing new.judge))
+    (ap (λ log. log_taken (next_taken log said) (log_says rest)) same ∙ sym (ap (log_taken (run_so_far old)) (ends rest)))
+    (lines_left (next_taken (run_so_far mid) said) (run_so_far new) (standing new.judge) (log_says rest) taken))
+    (ap (log_taken (run_so_far new)) left) refl
 
--- an entry that is nothing
-nothing_is : (entry : LogEntry) → ◌≡◌ {A = Result LogEntry LogFault} (Ok entry) (Ok entries.Nothing) → entry ≡ entries.Nothing
-nothing_is entry is = cc
-
--- a run that has judged a byte
-pub byte_pushed : (old mid new : Run) (read : Reading) (byte : ℕ) (entry : LogEntry) → run_so_far mid ≡ run_so_far old
-    → TakesLine mid new (Some entry) → new.log ≡ read
-    → (byte ≢ 10 → ◌≡◌ {A = Result LogEntry LogFault} (Ok entry) (Ok entries.Nothing)) → (byte ≢ 10 → SaysAs (old.log.line ++ byte ∷ []) read.line)
-    → (byte ≡ 10 → (rest : List ℕ) → log_says (old.log.line ++ byte ∷ rest) ≡ Some entry ∷ log_says rest) → (byte ≡ 10 → read.line ≡ [])
-    → Judges old new (byte ∷ [])
-byte_pushed old mid new read byte entry same taken log nothing within ends empty = λ rest.
-    subst (λ (r : Reading). IsJudgedAs (log_whole old (byte ∷ rest)) (log_taken (run_so_far new) (log_says (r.line ++ rest))) (standing new.judge))
-    (sym log)
-    (byte_taken (run_so_far old) (run_so_far new) (standing new.judge) old.log.line read.line byte entry
-    (subst (λ log. IsJudgedAs (next_taken log (Some entry)) (run_so_far new) (standing new.judge)) same taken)
-    (λ other. nothing_is entry (nothing other)) within ends empty rest)
-
--- a run that has rejected a byte
-pub byte_refused : (old new : Run) (byte : ℕ) (fault : LogFault) → is_some new.rejection ≡ true → new.judge ≡ old.judge
-    → (byte ≢ 10 → ◌≡◌ {A = Result LogEntry LogFault} (Err fault) (Ok entries.Nothing))
-    → (byte ≡ 10 → (rest : List ℕ) → log_says (old.log.line ++ byte ∷ rest) ≡ None ∷ log_says rest) → Judges old new (byte ∷ [])
+-- a run that has rejected the rest of a line
+pub line_refused : (old new : Run) (line : List ℕ) → is_some new.rejection ≡ true → new.judge ≡ old.judge
+    → ((rest : List ℕ) → log_says (old.log.line ++ (line ++ 10 ∷ rest)) ≡ None ∷ log_says rest) → JudgesLine old new line
 unfolding run_so_far
-byte_refused old new byte fault rejected judge within ends = λ rest.
-    elim (cases_Bool (byte == 10)) [
-      | inl ended ↦
-          judged_same _ _ _ _ _
-          (byte_rejected (run_so_far old) Broken (standing new.judge) old.log.line new.log.line byte
-          (rejects (is_some old.rejection) (standing old.judge) (standing new.judge) old.state.last (ap standing judge)) rest
-          (ends (eqb-true byte 10 ended) rest))
-          (ap (λ log. log_taken log (log_says (new.log.line ++ rest)))
-          (sym (ap (λ r. so_far r (standing new.judge) new.state.last) rejected)))
-          refl
-      | inr other ↦ absurd (cc (within (eqb-false byte 10 other)))
-    ]
+line_refused old new line rejected judge ends = λ rest.
+    let broken : run_so_far new ≡ Broken = ap (λ r. so_far r (standing new.judge) new.state.last) rejected in
+    judged_same _ _ _ _ _
+    (subst (λ before. IsJudgedAs before Broken (standing new.judge))
+    (sym (ap (log_taken (run_so_far old)) (ends rest)))
+    (subst (λ after. IsJudgedAs (log_taken (next_taken (run_so_far old) None) (log_says rest)) after (standing new.judge))
+    (stays_broken (log_says rest))
+    (lines_left (next_taken (run_so_far old) None) Broken (standing new.judge) (log_says rest)
+    (rejects (is_some old.rejection) (standing old.judge) (standing new.judge) old.state.last (ap standing judge)))))
+    (sym (ap (λ log. log_taken log (log_says (new.log.line ++ rest))) broken ∙ stays_broken (log_says (new.log.line ++ rest)))) refl
 
 -- a run that has judged the line with which a log ends
 pub ended_taken : (old mid new : Run) (said : Option LogEntry) → run_so_far mid ≡ run_so_far old → TakesLine mid new said

@@ -44,6 +44,11 @@ abbrev pub Judges : Run → Run → List ℕ → Type 0
 Judges old new bytes =
     (rest : List ℕ) → IsJudgedAs (log_whole old (bytes ++ rest)) (log_whole new rest) (standing new.judge)
 
+-- a run has judged the rest of a line of a log, which a line feed ends
+abbrev pub JudgesLine : Run → Run → List ℕ → Type 0
+JudgesLine old new line =
+    (rest : List ℕ) → IsJudgedAs (log_whole old (line ++ 10 ∷ rest)) (log_whole new rest) (standing new.judge)
+
 -- a run has judged a line of a log
 abbrev pub TakesLine : Run → Run → Option LogEntry → Type 0
 TakesLine old new line = IsJudgedAs (next_taken (run_so_far old) line) (run_so_far new) (standing new.judge)

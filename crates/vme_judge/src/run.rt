@@ -2,6 +2,7 @@
 ghost use Rattle.std.specs.Prelude.{◌≡◌, ◌≢◌, ◌||◌, [], ◌∷◌, true, false, Some, None, replicate, is_some, IfOk};
 ghost use Rattle.vme_judge.specs.declared.run.Kind.TheVariants.{Unknown};
 ghost use Rattle.vme_judge.specs.declared.log.Taken.TheVariants.{Legal};
+ghost use Rattle.vme_bus_log.specs.Texts.{EndsNoLine};
 ghost use Rattle.vme_vcd_reader.specs.Readers.{IsBefore};
 ghost use Rattle.vme_judge.specs.DumpRuns.{dump_so_far};
 ghost use Rattle.vme_judge.specs.Dumps.{Legal as LegalDump};
@@ -9,7 +10,7 @@ ghost use Rattle.vme_judge.specs.Logs.{is_broken};
 ghost use Rattle.vme_judge.specs.Logs.{Legal as LegalSoFar};
 ghost use Rattle.vme_judge.specs.Openings.{opening};
 ghost use Rattle.vme_judge.specs.Standing.{standing};
-ghost use Rattle.vme_judge.specs.Runs.{form_after, is_no_dump, log_whole, run_so_far, IsGoing, IsJudgedAs, IsOnceRun, IsOver, Judges, KeepsReader, RunsOnce, StaysFound, TakesLine, TakesLog};
+ghost use Rattle.vme_judge.specs.Runs.{form_after, is_no_dump, log_whole, run_so_far, IsGoing, IsJudgedAs, IsOnceRun, IsOver, Judges, JudgesLine, KeepsReader, RunsOnce, StaysFound, TakesLine, TakesLog};
 ghost use Rattle.vme_judge.specs.Verdicts.{is_space};
 
 use crate::boards::Board;
@@ -19,7 +20,7 @@ use crate::log::{LogState, Taken};
 use crate::options::Options;
 use crate::rejection::{Rejection, Why};
 use std::alloc::{AllocError, Global};
-use vme_bus_log::{LogEntry, LogReader};
+use vme_bus_log::{LogEntry, LogReader, cut_line};
 use vme_line_map::LineMap;
 use vme_vcd_reader::VcdReader;
 
@@ -130,28 +131,32 @@ impl<'a> Run<'a> {
         ensures once { IfOk result (λ goes_on. RunsOnce self.old self.new goes_on) }
         ensures kind { IfOk result (λ _. self.new.kind ≡ self.old.kind) }
     {
-        for byte in bytes {
-            let goes_on = self.push_log(*byte)?;
+        let mut rest = bytes;
+        while let Some((line, after)) = cut_line(rest) {
+            let goes_on = self.push_line(line)?;
             if !goes_on {
                 return Ok(false);
             }
+            rest = after;
         }
+        self.log.keep_all(rest);
         Ok(true)
     }
 
-    /// Takes a byte of a log.
-    fn push_log(&mut self, byte: u8) -> Result<bool, AllocError>
-        ensures judges { IfOk result (λ _. Judges self.old self.new (byte ∷ [])) }
+    /// Takes the rest of a line of a log, without its line feed.
+    fn push_line(&mut self, line: &[u8]) -> Result<bool, AllocError>
+        requires { EndsNoLine line.now }
+        ensures judges { IfOk result (λ _. JudgesLine self.old self.new line.now) }
         ensures stays { IfOk result (λ _. StaysFound self.old self.new) }
         ensures stops { IfOk result (λ goes_on. goes_on ≡ false → IsOver (run_so_far self.new)) }
         ensures once { IfOk result (λ goes_on. RunsOnce self.old self.new goes_on) }
         ensures kind { IfOk result (λ _. self.new.kind ≡ self.old.kind) }
     {
-        let line = self.log.number();
-        match self.log.push(byte) {
-            Ok(entry) => self.take_entry(&entry, line),
+        let number = self.log.number();
+        match self.log.end_with(line) {
+            Ok(entry) => self.take_entry(&entry, number),
             Err(fault) => {
-                self.reject(Why::Log(fault), line);
+                self.reject(Why::Log(fault), number);
                 Ok(false)
             }
         }

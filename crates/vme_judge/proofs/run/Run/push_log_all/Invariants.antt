@@ -1,12 +1,16 @@
-use Rattle.std.proofs.Common.{◌≡◌, take}
-use Rattle.vme_judge.specs.Runs.{IsGoing, IsOnceRun, Judges, StaysFound}
+use Rattle.std.proofs.Common.{◌≡◌, length}
+use Rattle.vme_judge.specs.Runs.{IsGoing, IsOnceRun, StaysFound}
+use Rattle.vme_judge.proofs.Runs.{Leaves}
 use Rattle.vme_judge.proofs.run.Run.push_log_all.Given as goal
 
--- the bytes so far are judged
-abbrev pub invariant-loop-byte : goal.invariant-loop-byte
-invariant-loop-byte l = record {
-  judges : Judges l.initial.self l.self (take l.byte-index l.bytes);
+-- the bytes before the rest are judged
+abbrev pub invariant-loop-line : goal.invariant-loop-line
+invariant-loop-line l = record {
+  judges : Leaves l.initial.self l.self l.bytes l.rest;
   stays : StaysFound l.initial.self l.self;
   once : IsOnceRun l.initial.self → IsGoing l.initial.self → IsOnceRun l.self × IsGoing l.self;
   kind : l.self.kind ≡ l.initial.self.kind;
 }
+
+abbrev pub decreases-loop-line : goal.decreases-loop-line
+decreases-loop-line l = length l.rest

@@ -2,20 +2,20 @@ use Rattle.std.proofs.Common.{refl, ap}
 use Rattle.vme_bus_log.specs.Texts.{Reading}
 use Rattle.vme_judge.specs.Runs.{run_so_far}
 use Rattle.vme_judge.proofs.Logs.{if_ok_both}
-use Rattle.vme_judge.proofs.Runs.{byte_pushed, byte_refused, is_over_rejected}
-use Rattle.vme_judge.proofs.run.Run.push_log.Goals as goal
+use Rattle.vme_judge.proofs.Runs.{line_pushed, line_refused, is_over_rejected}
+use Rattle.vme_judge.proofs.run.Run.push_line.Goals as goal
 
 pub returns-in-Ok-clause-judges : goal.returns-in-Ok-clause-judges
 unfolding run_so_far
 returns-in-Ok-clause-judges c =
     if_ok_both _ _ _ c.take_entry.result c.take_entry.ensures.line c.take_entry.ensures.log (λ goes taken log.
-    byte_pushed c.args.self.now c.args.self.now c.take_entry.new.self c.push.new.self c.args.byte c.in-Ok.entry refl taken log c.in-Ok.ensures.within
-    c.in-Ok.ensures.begin c.in-Ok.ensures.ends (λ ended. ap (λ (r : Reading). r.line) (c.in-Ok.ensures.next ended)))
+    line_pushed c.args.self.now c.args.self.now c.take_entry.new.self c.end_with.new.self c.args.line.now _ refl taken log
+    c.in-Ok.ensures.ends (ap (λ (r : Reading). r.line) c.in-Ok.ensures.next))
 
 pub returns-in-Err-clause-judges : goal.returns-in-Err-clause-judges
 returns-in-Err-clause-judges c =
-    byte_refused c.args.self.now c.reject.new.self c.args.byte c.in-Err.fault c.reject.ensures.rejected c.reject.ensures.judge
-    c.in-Err.ensures.within c.in-Err.ensures.ends
+    line_refused c.args.self.now c.reject.new.self c.args.line.now c.reject.ensures.rejected c.reject.ensures.judge
+    c.in-Err.ensures.ends
 
 pub returns-in-Err-clause-stops : goal.returns-in-Err-clause-stops
 returns-in-Err-clause-stops c = λ stopped. is_over_rejected c.reject.new.self c.reject.ensures.rejected
