@@ -28,7 +28,8 @@ is_vector _ = false
 abbrev pub whole : Group → ℕ → Place
 whole group first = if is_vector group && (first == 0) then Ranged 0 else From first
 
--- the lowest address line of some bits, one more than this: A01 if their number is odd, A02 if it is two less than a multiple of eight, else A00
+-- the lowest address line of some bits, one more than this: A01 if their number is odd, A02 if it is two less than a multiple of
+-- eight, else A00
 abbrev pub first_address : ℕ → ℕ
 first_address before_last = if before_last % 2 == 0 then 1 else (if before_last % 8 == 5 then 2 else 0)
 
@@ -98,7 +99,8 @@ each_between group is_inverted before after _ _ = Err BadRange
 -- a variable for each line of `FIRST..LAST`
 abbrev pub each_of : Group → Bool → List ℕ → Option (List ℕ × List ℕ) → List ℕ → Result (List Variable) LinesProblem
 each_of group is_inverted before None after = Err BadRange
-each_of group is_inverted before (Some (one, other)) after = each_between group is_inverted before after (number 8 one) (number 8 other)
+each_of group is_inverted before (Some (one, other)) after =
+    each_between group is_inverted before after (number 8 one) (number 8 other)
 
 -- what `{` and `}` enclose names a variable for each of its lines
 abbrev pub enclosed : Group → Bool → List ℕ → Option (List ℕ × List ℕ) → Result (List Variable) LinesProblem
@@ -107,7 +109,8 @@ enclosed group is_inverted before (Some (range, after)) = each_of group is_inver
 
 -- one variable, with a name and bits
 abbrev pub one_variable : Group → Bool → List ℕ × Place → Result (List Variable) LinesProblem
-one_variable group is_inverted (name, place) = Ok (record { name = name; group = group; place = place; is_inverted = is_inverted } ∷ [])
+one_variable group is_inverted (name, place) =
+    Ok (record { name = name; group = group; place = place; is_inverted = is_inverted } ∷ [])
 
 -- the variables of a name that has no `{`, or that is cut there
 abbrev pub cut_name : Group → ℕ → Bool → List ℕ → Option (List ℕ × List ℕ) → Result (List Variable) LinesProblem
@@ -117,7 +120,8 @@ cut_name group first is_inverted name (Some (before, rest)) = enclosed group is_
 -- the variables of a name
 abbrev pub of_name : Group → ℕ → Bool → List ℕ → Result (List Variable) LinesProblem
 of_name group first is_inverted name =
-    if nat_lt 0 (length name) && nat_le (length name) 255 then cut_name group first is_inverted name (cut (codes "{") name) else Err BadName
+    if nat_lt 0 (length name) && nat_le (length name) 255 then cut_name group first is_inverted name (cut (codes "{") name)
+    else Err BadName
 
 -- the variables of a text, or of this after its `!`: they are inverted then
 abbrev pub marked : Group → ℕ → List ℕ → Option (List ℕ) → Result (List Variable) LinesProblem

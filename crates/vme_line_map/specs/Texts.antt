@@ -37,7 +37,9 @@ before_end c (x ∷ y ∷ ys) = option_map (λ start. x ∷ start) (before_end c
 -- the number that decimal digits write, if it is below a limit
 abbrev pub digits_below : ℕ → List ℕ → Option ℕ
 digits_below limit digits =
-    if nat_lt 0 (length digits) && (all_ascii_digits digits && nat_lt (digits_value 10 digits) limit) then Some (digits_value 10 digits) else None
+    if nat_lt 0 (length digits) && (all_ascii_digits digits && nat_lt (digits_value 10 digits) limit)
+    then Some (digits_value 10 digits)
+    else None
 
 -- the number of some bits that decimal digits write, with `+` before them or not
 abbrev pub number : ℕ → List ℕ → Option ℕ

@@ -13,3 +13,9 @@ pub mod Lines
 pub mod LineEnds
 pub mod Taken
 pub mod Reasons
+pub mod Fitting
+pub mod Finding
+pub mod Matchings
+pub mod FaultsAt
+pub mod AddingLines
+pub mod Declaring

@@ -1,6 +1,6 @@
 -- A reader takes a line at once as it takes its bytes.
 use Rattle.std.proofs.Common.{◌≡◌, ℕ, ◌||◌, List, [], ◌∷◌, ◌++◌, append_assoc, Option, Some, None, refl, ap, sym, subst, ◌∙◌}
-use Rattle.std.specs.Option.{option_map, option_and_then}
+use Rattle.std.specs.Option.{option_map}
 use Rattle.vme_vcd_reader.specs.declared.bits.Bits.{Bits}
 use Rattle.vme_vcd_reader.specs.declared.body.Body.{Body}
 use Rattle.vme_vcd_reader.specs.declared.body.Place.TheVariants as places
@@ -8,8 +8,8 @@ use Rattle.vme_vcd_reader.specs.declared.reader.Step.{Step}
 use Rattle.vme_vcd_reader.specs.declared.reader.Step.TheVariants as steps
 use Rattle.vme_vcd_reader.specs.declared.reader.VcdReader.{VcdReader}
 use Rattle.vme_vcd_reader.specs.declared.table.Row.{Row}
-use Rattle.vme_vcd_reader.specs.Bodies.{Reading, Shown, byte_taken, samples_by, samples_of, time_taken}
-use Rattle.vme_vcd_reader.specs.Lines.{IsChangeLine, IsTimeLine, between, bytes_taken, list_of, shown_first}
+use Rattle.vme_vcd_reader.specs.Bodies.{Reading, Shown, samples_by, samples_of, time_taken}
+use Rattle.vme_vcd_reader.specs.Lines.{IsChangeLine, IsTimeLine, between, bytes_taken, list_of}
 use Rattle.vme_vcd_reader.specs.Places.{HasOpened, IsAt}
 use Rattle.vme_vcd_reader.specs.Readers.{IsBrokenText, IsReading, ReportsSample, TakesLine, TakesRead, rows_of}
 use Rattle.vme_vcd_reader.specs.Tables.{has_variable, variables_after}

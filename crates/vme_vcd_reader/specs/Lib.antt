@@ -13,4 +13,8 @@ pub mod Faults
 pub mod Headers
 pub mod Headings
 pub mod Ranges
+pub mod Mapping
+pub mod Matches
+pub mod Found
+pub mod Presences
 pub mod Readers

@@ -18,7 +18,8 @@ shown_first (Some shown) more = (more.0, shown ∷ more.1)
 abbrev pub bytes_taken : List Row → Reading → List ℕ → Option (Reading × List Shown)
 bytes_taken rows r [] = Some (r, [])
 bytes_taken rows r (b ∷ bs) =
-    option_and_then (λ (taken : Reading × Option Shown). option_map (shown_first taken.1) (bytes_taken rows taken.0 bs)) (byte_taken rows r b)
+    option_and_then (λ (taken : Reading × Option Shown). option_map (shown_first taken.1) (bytes_taken rows taken.0 bs))
+    (byte_taken rows r b)
 
 -- a body between two words
 abbrev pub between : BusLines → Option ℕ → Bool → Reading

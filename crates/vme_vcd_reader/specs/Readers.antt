@@ -1,17 +1,25 @@
 -- How a reader remembers a dump.
-use Rattle.std.specs.Prelude.{◌≡◌, ℕ, true, false, if◌then◌else◌, List, [], ◌∷◌, ◌++◌, ◌<◌, length, Option, Some, None}
+use Rattle.std.specs.Prelude.{◌≡◌, ℕ, true, false, if◌then◌else◌, List, [], ◌∷◌, ◌++◌, ◌<◌, length, Option, Some, None, Result, Ok, Err}
+use Rattle.vme_line_map.specs.Variables.{Map}
 use Rattle.vme_vcd_reader.specs.declared.reader.Step.{Step}
 use Rattle.vme_vcd_reader.specs.declared.reader.Step.TheVariants as steps
 use Rattle.vme_vcd_reader.specs.declared.reader.VcdReader.{VcdReader}
 use Rattle.vme_vcd_reader.specs.declared.table.Row.{Row}
 use Rattle.vme_vcd_reader.specs.Bodies.{Reading, Shown, Samples, Sample, End, Broken, samples_of}
-use Rattle.vme_vcd_reader.specs.Headers.{Outcome, Goes, Declares, Ends, Rejects}
+use Rattle.vme_vcd_reader.specs.Headers.{Heading, Outcome, Goes, Declares, Ends, Rejects}
+use Rattle.vme_vcd_reader.specs.declared.fault.VcdFault.{VcdFault}
+use Rattle.vme_vcd_reader.specs.declared.fault.VcdFault.TheVariants as faults
+use Rattle.vme_vcd_reader.specs.declared.variable.Mapped.{Mapped}
+use Rattle.vme_vcd_reader.specs.Found.{IsMapFault, IsMatching}
+use Rattle.vme_vcd_reader.specs.Mapping.{Declaration, declaration}
+use Rattle.vme_vcd_reader.specs.Matches.{lines_of}
+use Rattle.vme_vcd_reader.specs.Presences.{presence_of}
 use Rattle.vme_vcd_reader.specs.Headings.{IsHeading}
 use Rattle.vme_vcd_reader.specs.Lines.{bytes_taken, list_of}
 use Rattle.vme_vcd_reader.specs.Openings.{opening_of, resting}
 use Rattle.vme_vcd_reader.specs.Places.{IsAt}
 use Rattle.vme_vcd_reader.specs.Ports.{without_changes}
-use Rattle.vme_vcd_reader.specs.Tables.{IsLinked}
+use Rattle.vme_vcd_reader.specs.Tables.{IsLinked, variables_of}
 use Rattle.vme_vcd_reader.specs.Words.{Statement}
 
 -- the variables that a reader has mapped
@@ -47,12 +55,32 @@ Enters steps.More v = IsBefore v
 Enters steps.Header v = IsReading (opening_of v.presence.busy) v
 Enters steps.Sample v = ⊥
 
--- a reader has taken a byte of the header, and goes on with the header or has read it whole
-abbrev pub TakesHeading : Outcome → Step → VcdReader → Type 0
-TakesHeading (Goes h) step v = (step ≡ steps.More) × IsHeading h v.header × (v.is_body ≡ false)
-TakesHeading (Declares h) step v = (step ≡ steps.More) × IsHeading h v.header × (v.is_body ≡ false)
-TakesHeading Ends step v = step ≡ steps.Header
-TakesHeading (Rejects fault) step v = ⊥
+-- a reader with a map has read a header as far, which has declared these variables
+pub record IsHeader (map : Map) (h : Heading) (ds : List Declaration) (v : VcdReader) : Type 0 where
+  pub before : IsBefore v
+  pub same : v.map.now ≡ map
+  pub heading : IsHeading h v.header
+  pub matching : IsMatching map ds v.matching
+
+-- a reader begins with the body of a dump that has these lines; with none if they are not read
+abbrev pub EntersBody : Result (List (ℕ × Mapped)) VcdFault → VcdReader → Type 0
+EntersBody (Ok lines) v =
+    (variables_of (rows_of v) ≡ lines) × (v.presence ≡ presence_of lines) × IsReading (opening_of (presence_of lines).busy) v
+EntersBody (Err fault) v = ⊥
+
+-- a reader has taken a byte of a header that has declared these variables: it goes on with the header, or has read it whole
+abbrev pub TakesHeading : Map → Outcome → List Declaration → Step → VcdReader → Type 0
+TakesHeading map (Goes h) ds step v = (step ≡ steps.More) × IsHeader map h ds v
+TakesHeading map (Declares h) ds step v = (step ≡ steps.More) × IsHeader map h (ds ++ declaration h ∷ []) v
+TakesHeading map Ends ds step v = (step ≡ steps.Header) × EntersBody (lines_of map ds) v
+TakesHeading map (Rejects fault) ds step v = ⊥
+
+-- why a reader does not take a byte of a header: no dump has it there, its variables are not the wanted ones, or an
+-- allocation failed
+abbrev pub IsHeadingFault : Outcome → Result (List (ℕ × Mapped)) VcdFault → VcdFault → Type 0
+IsHeadingFault (Rejects why) lines fault = fault ≡ why
+IsHeadingFault Ends lines fault = IsMapFault lines fault
+IsHeadingFault outcome lines fault = fault ≡ faults.Memory
 
 -- a reader reports a sample, or none
 abbrev pub ReportsSample : Option Shown → Step → VcdReader → Type 0

@@ -90,7 +90,7 @@ const RESTING: Sample = Sample {
 const LONG_WORD: u64 = 1 << 32;
 
 /// A set of slots with one of them in it or not.
-fn with_slot(slots: u32, slot: u8, is_in: bool) -> u32
+pub(crate) fn with_slot(slots: u32, slot: u8, is_in: bool) -> u32
     ensures { result ≡ with_slot slots slot is_in }
 {
     let bit = 1u32.wrapping_shl(u32::from(slot.wrapping_sub(1)));

@@ -1,15 +1,18 @@
 //! The header of a dump, word by word.
-ghost use Rattle.std.specs.Prelude.{◌≡◌, false, ◌&&◌, IfOk, IfErr};
+ghost use Rattle.std.specs.Prelude.{◌≡◌, ◌∷◌, ◌++◌, [], List, false, ◌&&◌, IfOk, IfErr, OnOk};
 ghost use Rattle.vme_vcd_reader.specs.Headers.{Heading, after_keyword, beginning, byte_read, end_read, fault_of, is_long, is_read, keyword_read, other_read, scope_ended, scope_opened, variable_ended, word_read};
+ghost use Rattle.vme_vcd_reader.specs.declared.header.Progress.TheVariants as progresses;
+ghost use Rattle.vme_vcd_reader.specs.Found.{IsMatching};
+ghost use Rattle.vme_vcd_reader.specs.Mapping.{Declaration, declaration};
 ghost use Rattle.vme_vcd_reader.specs.Headings.{IsHeading, Reads, ReadsByte};
 
 use crate::fault::VcdFault;
 use crate::identifier::{NO_IDENTIFIER, identifier_of};
 use crate::matching::Matching;
-use crate::variable::{named_variable, number};
+use crate::variable::{Declared, named_variable, number};
 use crate::word::{Word, is_blank};
 use arrayvec::ArrayVec;
-use std::alloc::Global;
+use std::alloc::{AllocError, Global};
 use vme_line_map::LineMap;
 
 /// The greatest number of open scopes.
@@ -107,6 +110,7 @@ impl Header {
         ensures says { (h : Heading) → IsHeading h self.old →
             IfOk result (λ progress. ReadsByte (byte_read h byte) progress self.new) }
         ensures why { (h : Heading) → IsHeading h self.old → IfErr result (λ fault. fault ≡ fault_of (byte_read h byte)) }
+        ensures name { IfOk result (λ progress. progress ≡ progresses.Variable → self.new.name.is_cut ≡ false) }
     {
         if !is_blank(byte) {
             self.word.push(byte);
@@ -125,6 +129,7 @@ impl Header {
         ensures says { (h : Heading) → IsHeading h self.old →
             IfOk result (λ progress. Reads (word_read h) progress self.new) }
         ensures why { (h : Heading) → IsHeading h self.old → IfErr result (λ fault. fault ≡ fault_of (word_read h)) }
+        ensures name { IfOk result (λ progress. progress ≡ progresses.Variable → self.new.name.is_cut ≡ false) }
     {
         if self.word.is_cut() && self.next.is_read() {
             return Err(VcdFault::WordTooLong);
@@ -140,6 +145,7 @@ impl Header {
         ensures says { (h : Heading) → IsHeading h self.old →
             IfOk result (λ progress. Reads (end_read h h.next) progress self.new) }
         ensures why { (h : Heading) → IsHeading h self.old → IfErr result (λ fault. fault ≡ fault_of (end_read h h.next)) }
+        ensures name { IfOk result (λ progress. progress ≡ progresses.Variable → self.new.name.is_cut ≡ false) }
     {
         match self.next {
             Next::Keyword => self.next = Next::Skipped,
@@ -161,6 +167,7 @@ impl Header {
             IfOk result (λ progress. Reads (other_read h h.next) progress self.new) }
         ensures why { (h : Heading) → IsHeading h self.old → (is_long h.word && is_read h.next) ≡ false →
             IfErr result (λ fault. fault ≡ fault_of (other_read h h.next)) }
+        ensures name { IfOk result (λ progress. progress ≡ progresses.Variable → self.new.name.is_cut ≡ false) }
     {
         match self.next {
             Next::Keyword => return self.take_keyword(),
@@ -190,6 +197,7 @@ impl Header {
             IfOk result (λ progress. Reads (keyword_read h) progress self.new) }
         ensures why { (h : Heading) → IsHeading h self.old → is_long h.word ≡ false →
             IfErr result (λ fault. fault ≡ fault_of (keyword_read h)) }
+        ensures name { IfOk result (λ progress. progress ≡ progresses.Variable → self.new.name.is_cut ≡ false) }
     {
         if self.word.bytes() == b"$upscope".as_slice() {
             return self.end_scope();
@@ -206,6 +214,7 @@ impl Header {
         ensures says { (h : Heading) → IsHeading h self.old →
             IfOk result (λ progress. Reads (scope_ended h h.scopes) progress self.new) }
         ensures why { (h : Heading) → IsHeading h self.old → IfErr result (λ fault. fault ≡ fault_of (scope_ended h h.scopes)) }
+        ensures name { IfOk result (λ progress. progress ≡ progresses.Variable → self.new.name.is_cut ≡ false) }
     {
         let Some(length) = self.lengths.pop() else {
             return Err(VcdFault::NoScope);
@@ -221,6 +230,7 @@ impl Header {
             IfOk result (λ progress. Reads (scope_opened h) progress self.new) }
         ensures why { (h : Heading) → IsHeading h self.old → is_long h.word ≡ false →
             IfErr result (λ fault. fault ≡ fault_of (scope_opened h)) }
+        ensures name { IfOk result (λ progress. progress ≡ progresses.Variable → self.new.name.is_cut ≡ false) }
     {
         if self.lengths.is_full() {
             return Err(VcdFault::ScopesTooDeep);
@@ -238,6 +248,7 @@ impl Header {
         ensures says { (h : Heading) → IsHeading h self.old →
             IfOk result (λ progress. Reads (variable_ended h) progress self.new) }
         ensures why { (h : Heading) → IsHeading h self.old → IfErr result (λ fault. fault ≡ fault_of (variable_ended h)) }
+        ensures name { IfOk result (λ progress. progress ≡ progresses.Variable → self.new.name.is_cut ≡ false) }
     {
         if self.name.is_cut() {
             return Err(VcdFault::WordTooLong);
@@ -252,24 +263,28 @@ impl Header {
         Ok(Progress::Variable)
     }
 
-    /// Maps the variable that was declared.
+    /// Takes the variable that was declared.
     pub(crate) fn map_variable(
         &mut self,
         map: &LineMap,
         matching: &mut Matching,
-    ) -> Result<(), VcdFault>
-        ensures { (h : Heading) → IsHeading h self.old → IfOk result (λ _. IsHeading h self.new) }
+    ) -> Result<(), AllocError>
+        ensures heading { (h : Heading) → IsHeading h self.old → OnOk result (IsHeading h self.new) }
+        ensures matching { (h : Heading) (ds : List Declaration) → IsHeading h self.old → is_long h.name ≡ false →
+            IsMatching map.now ds matching.old →
+            OnOk result (IsMatching map.now (ds ++ declaration h ∷ []) matching.new) }
     {
-        let found = named_variable(&self.name, self.size);
+        let named = named_variable(self.name.bytes());
         let length = self.path.len();
-        self.path.extend_from_slice(found.name)?;
-        let taken = matching.take(
-            map,
-            self.path.as_slice(),
-            self.scopes,
-            self.identifier,
-            &found,
-        );
+        self.path.extend_from_slice(named.0)?;
+        let declared = Declared {
+            path: self.path.as_slice(),
+            scope: self.scopes,
+            identifier: self.identifier,
+            size: self.size,
+            range: named.1,
+        };
+        let taken = matching.take(map, &declared);
         self.path.truncate(length);
         taken
     }

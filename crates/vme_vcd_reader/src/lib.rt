@@ -9,6 +9,7 @@ mod change;
 mod fault;
 mod header;
 mod identifier;
+mod mapping;
 mod matching;
 mod presence;
 mod quick;

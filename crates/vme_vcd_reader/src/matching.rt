@@ -1,270 +1,247 @@
 //! Which variables of the header are those that the map wants.
-ghost use Rattle.std.specs.Prelude.{◌≡◌, [], IfOk};
-ghost use Rattle.vme_vcd_reader.specs.Tables.{IsLinked};
+ghost use Rattle.std.specs.Prelude.{◌≡◌, ◌∷◌, ◌++◌, [], List, false, not, IfOk, IfErr, OnOk};
+ghost use Rattle.std.specs.List.{list_any};
+ghost use Rattle.vme_line_map.specs.Variables.{shown};
+ghost use Rattle.vme_vcd_reader.specs.declared.fault.VcdFault.TheVariants.{Memory, TooManyMapped};
+ghost use Rattle.vme_vcd_reader.specs.declared.matching.Fit.TheVariants as fits;
+ghost use Rattle.vme_vcd_reader.specs.Found.{Holds, IsFound, IsMatching, fit_of};
+ghost use Rattle.vme_vcd_reader.specs.Mapping.{Declaration, declaration_of};
+ghost use Rattle.vme_vcd_reader.specs.Matches.{clashes, ends_with_name, is_same};
 
 use crate::fault::VcdFault;
-use crate::presence::Presence;
-use crate::table::{MOST_MAPPED, Table};
-use crate::variable::{Mapped, Variable};
-use std::alloc::Global;
-use vme_line_map::{Group, LineMap};
+use crate::variable::{Declared, Mapped};
+use std::alloc::{AllocError, Global};
+use vme_line_map::{LineMap, Wanted};
 
-/// How well the best variable so far fits a wanted name.
+/// How well a name fits the path of a variable.
 #[derive(Clone, Copy, Debug, PartialEq, Eq)]
-enum Fit {
+pub(crate) enum Fit {
     None,
-    /// The name is the end of its path.
+    /// The name is the end of the path.
     End,
-    /// The name is its whole path.
+    /// The name is the whole path.
     Whole,
 }
 
-/// What was found of a wanted variable.
+/// A variable of the dump that is a wanted one, or some bits of it.
 #[derive(Clone, Copy, Debug)]
-struct Found {
-    fit: Fit,
-    is_ambiguous: bool,
-    is_wrong: bool,
+pub(crate) struct Part {
+    pub(crate) scope: u64,
+    pub(crate) identifier: u64,
+    pub(crate) mapped: Mapped,
 }
 
-/// A variable that fits a wanted one.
-#[derive(Clone, Copy, Debug)]
-struct Candidate {
-    wanted: u16,
-    fit: Fit,
-    scope: u64,
-    identifier: u64,
-    mapped: Mapped,
+/// What was found of a wanted variable.
+#[derive(Drop)]
+pub(crate) struct Found {
+    /// The best fit so far. The rest is of the variables that fit so.
+    pub(crate) fit: Fit,
+    /// Whether they cannot be one variable.
+    pub(crate) is_ambiguous: bool,
+    /// Whether one has other bits than the map says.
+    pub(crate) is_wrong: bool,
+    /// Each of them once, unless they are ambiguous.
+    pub(crate) parts: Vec<Part>,
 }
 
 /// The variables that fit so far.
 #[derive(Drop)]
 pub(crate) struct Matching {
-    found: Vec<Found>,
-    candidates: Vec<Candidate>,
+    /// What was found of each wanted variable.
+    pub(crate) found: Vec<Found>,
 }
 
-/// How a name fits a path.
-fn fit_of(path: &[u8], name: &[u8]) -> Fit {
-    let Some(before) = path.strip_suffix(name) else {
-        return Fit::None;
+/// Whether a path ends with a name, after a dot.
+fn is_end(path: &[u8], name: &[u8]) -> bool
+    ensures { result ≡ ends_with_name path.now name.now }
+{
+    let Some(start) = path.len().checked_sub(name.len() + 1) else {
+        return false;
     };
-    match before.last() {
-        None => Fit::Whole,
-        Some(b'.') => Fit::End,
-        Some(_) => Fit::None,
+    path[start] == b'.' && &path[start + 1..] == name
+}
+
+/// How a name fits the path of a variable.
+fn fit_of(declared: &Declared<'_>, name: &[u8]) -> Fit
+    ensures { result ≡ fit_of name.now (declaration_of declared.now) }
+{
+    if declared.path == name {
+        return Fit::Whole;
+    }
+    if is_end(declared.path, name) {
+        return Fit::End;
+    }
+    Fit::None
+}
+
+/// Whether two variables are the same bits of one identifier, as the same lines.
+fn is_same(part: &Part, other: &Part) -> bool
+    ensures { result ≡ is_same part.now other.now }
+{
+    let (one, two) = (&part.mapped, &other.mapped);
+    part.identifier == other.identifier
+        && one.right == two.right
+        && one.first == two.first
+        && one.mask == two.mask
+        && one.size == two.size
+}
+
+/// Whether two different variables cannot be one together.
+fn clashes(part: &Part, other: &Part) -> bool
+    ensures { result ≡ clashes part.now other.now }
+{
+    part.scope != other.scope || part.mapped.mask & other.mapped.mask != 0
+}
+
+/// Whether a variable is the same as one before.
+fn has_same(parts: &[Part], part: &Part) -> bool
+    ensures { result ≡ list_any (λ p. is_same p part.now) parts.now }
+{
+    for other in parts {
+        if is_same(other, part) {
+            return true;
+        }
+    }
+    false
+}
+
+/// Whether a variable clashes with one before.
+fn has_clash(parts: &[Part], part: &Part) -> bool
+    ensures { result ≡ list_any (λ p. clashes p part.now) parts.now }
+{
+    for other in parts {
+        if clashes(other, part) {
+            return true;
+        }
+    }
+    false
+}
+
+impl Found {
+    /// Takes a variable of the header.
+    fn take(&mut self, wanted: &Wanted<'_>, declared: &Declared<'_>) -> Result<(), AllocError>
+        ensures { (ds : List Declaration) → IsFound ds (shown wanted.now) self.old →
+            OnOk result (IsFound (ds ++ declaration_of declared.now ∷ []) (shown wanted.now) self.new) }
+    {
+        match fit_of(declared, wanted.name) {
+            Fit::None => Ok(()),
+            Fit::End => self.take_end(wanted, declared),
+            Fit::Whole => self.take_whole(wanted, declared),
+        }
+    }
+
+    /// Takes a variable whose path ends with the name.
+    fn take_end(&mut self, wanted: &Wanted<'_>, declared: &Declared<'_>) -> Result<(), AllocError>
+        ensures { (ds : List Declaration) → fit_of wanted.now.name.now (declaration_of declared.now) ≡ fits.End →
+            IsFound ds (shown wanted.now) self.old →
+            OnOk result (IsFound (ds ++ declaration_of declared.now ∷ []) (shown wanted.now) self.new) }
+    {
+        match self.fit {
+            Fit::Whole => return Ok(()),
+            Fit::End => self.add(wanted, declared)?,
+            Fit::None => {
+                self.begin(Fit::End);
+                self.add(wanted, declared)?;
+            }
+        }
+        Ok(())
+    }
+
+    /// Takes a variable whose whole path is the name.
+    fn take_whole(&mut self, wanted: &Wanted<'_>, declared: &Declared<'_>) -> Result<(), AllocError>
+        ensures { (ds : List Declaration) → fit_of wanted.now.name.now (declaration_of declared.now) ≡ fits.Whole →
+            IsFound ds (shown wanted.now) self.old →
+            OnOk result (IsFound (ds ++ declaration_of declared.now ∷ []) (shown wanted.now) self.new) }
+    {
+        match self.fit {
+            Fit::Whole => self.add(wanted, declared)?,
+            _ => {
+                self.begin(Fit::Whole);
+                self.add(wanted, declared)?;
+            }
+        }
+        Ok(())
+    }
+
+    /// Begins with the variables of a better fit.
+    fn begin(&mut self, fit: Fit)
+        ensures fit { self.new.fit ≡ fit }
+        ensures ambiguous { self.new.is_ambiguous ≡ false }
+        ensures wrong { self.new.is_wrong ≡ false }
+        ensures parts { self.new.parts.items ≡ [] }
+    {
+        self.fit = fit;
+        self.is_ambiguous = false;
+        self.is_wrong = false;
+        self.parts.clear();
+    }
+
+    /// Adds a variable that fits as well as those before.
+    fn add(&mut self, wanted: &Wanted<'_>, declared: &Declared<'_>) -> Result<(), AllocError>
+        ensures fit { self.new.fit ≡ self.old.fit }
+        ensures holds { (named : List Declaration) → Holds named (shown wanted.now) self.old →
+            OnOk result (Holds (named ++ declaration_of declared.now ∷ []) (shown wanted.now) self.new) }
+    {
+        let Some(mapped) = declared.mapped(wanted) else {
+            self.is_wrong = true;
+            return Ok(());
+        };
+        let part = Part {
+            scope: declared.scope,
+            identifier: declared.identifier,
+            mapped,
+        };
+        if has_same(self.parts.as_slice(), &part) {
+            return Ok(());
+        }
+        if has_clash(self.parts.as_slice(), &part) {
+            self.is_ambiguous = true;
+            return Ok(());
+        }
+        self.parts.push(part)?;
+        Ok(())
     }
 }
 
 impl Matching {
     /// Returns what is found before the first variable.
-    pub(crate) fn new(alloc: Global) -> Matching {
-        Matching {
-            found: Vec::new(alloc),
-            candidates: Vec::new(alloc),
-        }
-    }
-
-    /// Begins with nothing found of each wanted variable.
-    pub(crate) fn begin(&mut self, map: &LineMap) -> Result<(), VcdFault> {
+    ///
+    /// # Errors
+    ///
+    /// An allocation failed.
+    pub(crate) fn new(alloc: Global, map: &LineMap) -> Result<Matching, AllocError>
+        ensures { IfOk result (IsMatching map.now []) }
+    {
+        let mut found = Vec::new(alloc);
         for _ in 0..map.len() {
-            self.found.push(Found {
+            found.push(Found {
                 fit: Fit::None,
                 is_ambiguous: false,
                 is_wrong: false,
+                parts: Vec::new(alloc),
             })?;
         }
-        Ok(())
+        Ok(Matching { found })
     }
 
-    /// Takes a variable with its path, in a scope of this number.
-    pub(crate) fn take(
-        &mut self,
-        map: &LineMap,
-        path: &[u8],
-        scope: u64,
-        identifier: u64,
-        variable: &Variable<'_>,
-    ) -> Result<(), VcdFault> {
-        for index in 0..map.len() {
-            let Some(wanted) = map.get(index) else {
-                continue;
-            };
-            let fit = fit_of(path, wanted.name);
-            if fit == Fit::None {
-                continue;
-            }
-            let Ok(number) = u16::try_from(index) else {
-                continue;
-            };
-            let mapped = variable.mapped(&wanted);
-            self.add(number, fit, scope, identifier, mapped)?;
-        }
-        Ok(())
-    }
-
-    /// Adds a variable that fits. A better fit takes the place of all before.
-    fn add(
-        &mut self,
-        wanted: u16,
-        fit: Fit,
-        scope: u64,
-        identifier: u64,
-        mapped: Option<Mapped>,
-    ) -> Result<(), VcdFault> {
-        let Some(found) = self.found.as_mut_slice().get_mut(usize::from(wanted)) else {
-            return Ok(());
-        };
-        if found.fit == Fit::Whole && fit == Fit::End {
-            return Ok(());
-        }
-        if found.fit != fit {
-            *found = Found {
-                fit,
-                is_ambiguous: false,
-                is_wrong: false,
-            };
-        }
-        let Some(mapped) = mapped else {
-            found.is_wrong = true;
-            return Ok(());
-        };
-        for other in self.candidates.iter() {
-            if other.wanted != wanted || other.fit != fit {
-                continue;
-            }
-            if other.identifier == identifier && other.mapped == mapped {
-                return Ok(());
-            }
-            if other.scope != scope || other.mapped.mask & mapped.mask != 0 {
-                found.is_ambiguous = true;
-                return Ok(());
-            }
-        }
-        if 2 * MOST_MAPPED <= self.candidates.len() {
-            return Err(VcdFault::TooManyMapped);
-        }
-        self.candidates.push(Candidate {
-            wanted,
-            fit,
-            scope,
-            identifier,
-            mapped,
-        })?;
-        Ok(())
-    }
-
-    /// Fills the table with what was found, and returns which lines the dump has.
-    pub(crate) fn end(&self, map: &LineMap, table: &mut Table) -> Result<Presence, VcdFault>
-        ensures { table.old.rows.items ≡ [] → table.old.heads.items ≡ [] →
-            IfOk result (λ _. IsLinked table.new.rows.items table.new.heads.items) }
+    /// Takes a variable of the header.
+    ///
+    /// # Errors
+    ///
+    /// An allocation failed.
+    pub(crate) fn take(&mut self, map: &LineMap, declared: &Declared<'_>) -> Result<(), AllocError>
+        ensures { (ds : List Declaration) → IsMatching map.now ds self.old →
+            OnOk result (IsMatching map.now (ds ++ declaration_of declared.now ∷ []) self.new) }
     {
-        table.begin()?;
-        let own_a01 = self.has_own_a01(map);
-        let mut presence = Presence::NONE;
         for index in 0..map.len() {
-            let Ok(number) = u16::try_from(index) else {
-                continue;
-            };
-            self.check(map, number)?;
             let Some(wanted) = map.get(index) else {
-                continue;
+                break;
             };
-            let is_a01 = wanted.group == Group::Address
-                && wanted.place == vme_line_map::Place::From(1);
-            for candidate in self.candidates.iter() {
-                if !self.is_best(candidate, number) {
-                    continue;
-                }
-                let mut mapped = candidate.mapped;
-                if wanted.group == Group::Address && own_a01 && !is_a01 {
-                    mapped.mask &= !2;
-                }
-                note(&mut presence, wanted.group);
-                if !table.add(candidate.identifier, mapped)? {
-                    return Err(VcdFault::TooManyMapped);
-                }
+            if self.found.len() <= index {
+                break;
             }
-        }
-        Ok(presence)
-    }
-
-    /// Whether a candidate is of a wanted variable, and fits as well as any.
-    fn is_best(&self, candidate: &Candidate, wanted: u16) -> bool {
-        match self.found.as_slice().get(usize::from(wanted)) {
-            Some(found) => candidate.wanted == wanted && candidate.fit == found.fit,
-            None => false,
-        }
-    }
-
-    /// Whether A01 has a variable of its own.
-    fn has_own_a01(&self, map: &LineMap) -> bool {
-        for candidate in self.candidates.iter() {
-            if let Some(wanted) = map.get(usize::from(candidate.wanted))
-                && wanted.group == Group::Address
-                && wanted.place == vme_line_map::Place::From(1)
-                && self.is_best(candidate, candidate.wanted)
-            {
-                return true;
-            }
-        }
-        false
-    }
-
-    /// Checks that a wanted variable was found if it has to be, and is one.
-    fn check(&self, map: &LineMap, number: u16) -> Result<(), VcdFault> {
-        let Some(found) = self.found.as_slice().get(usize::from(number)) else {
-            return Ok(());
-        };
-        if found.is_ambiguous {
-            return Err(VcdFault::Ambiguous(number));
-        }
-        if found.is_wrong {
-            return Err(VcdFault::BadWidth(number));
-        }
-        if found.fit != Fit::None {
-            return Ok(());
-        }
-        if map.is_named() {
-            return Err(VcdFault::Absent(number));
-        }
-        let Some(wanted) = map.get(usize::from(number)) else {
-            return Ok(());
-        };
-        if wanted.group.is_needed() && !self.has_group(map, wanted.group) {
-            return Err(VcdFault::LacksLines(number));
+            self.found[index].take(&wanted, declared)?;
         }
         Ok(())
     }
-
-    /// Whether some variable of a group was found.
-    fn has_group(&self, map: &LineMap, group: Group) -> bool {
-        for candidate in self.candidates.iter() {
-            if let Some(wanted) = map.get(usize::from(candidate.wanted))
-                && wanted.group == group
-            {
-                return true;
-            }
-        }
-        false
-    }
-}
-
-/// Notes that the dump has lines of a group.
-fn note(presence: &mut Presence, group: Group) {
-    match group {
-        Group::BusError => presence.bus_error = true,
-        Group::InterruptAcknowledge => presence.interrupt_acknowledge = true,
-        Group::Busy => presence.busy = true,
-        Group::SlotBusy(slot) => presence.drivers |= bit_of(slot),
-        Group::SlotRequest(slot) => presence.requests |= bit_of(slot),
-        Group::SlotGrant(slot) => presence.grants |= bit_of(slot),
-        Group::PortDone(slot) => presence.ports |= bit_of(slot),
-        _ => {}
-    }
-}
-
-/// The bit of a slot.
-fn bit_of(slot: u8) -> u32 {
-    1u32.wrapping_shl(u32::from(slot.wrapping_sub(1)))
 }

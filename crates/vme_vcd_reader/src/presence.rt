@@ -1,4 +1,9 @@
 //! Which lines a dump has.
+ghost use Rattle.std.specs.Prelude.{◌≡◌};
+ghost use Rattle.vme_vcd_reader.specs.Presences.{with_lines};
+
+use crate::bus::with_slot;
+use vme_line_map::Group;
 
 /// Which lines a dump has, beside those without which nothing is judged. Slot N is bit N - 1.
 #[derive(Clone, Copy, Debug, PartialEq, Eq)]
@@ -27,4 +32,22 @@ impl Presence {
         grants: 0,
         ports: 0,
     };
+
+    /// Returns the same with the lines of a group.
+    pub(crate) fn with_lines(self, group: Group) -> Presence
+        ensures { result ≡ with_lines self group }
+    {
+        let mut presence = self;
+        match group {
+            Group::BusError => presence.bus_error = true,
+            Group::InterruptAcknowledge => presence.interrupt_acknowledge = true,
+            Group::Busy => presence.busy = true,
+            Group::SlotBusy(slot) => presence.drivers = with_slot(self.drivers, slot, true),
+            Group::SlotRequest(slot) => presence.requests = with_slot(self.requests, slot, true),
+            Group::SlotGrant(slot) => presence.grants = with_slot(self.grants, slot, true),
+            Group::PortDone(slot) => presence.ports = with_slot(self.ports, slot, true),
+            _ => {}
+        }
+        presence
+    }
 }

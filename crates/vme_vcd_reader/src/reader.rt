@@ -1,16 +1,20 @@
 //! A dump as the levels of lines at its times.
-ghost use Rattle.std.specs.Prelude.{◌≡◌, ◌||◌, List, [], true, false, None, IfOk, IfErr, IfSome, OnErr};
+ghost use Rattle.std.specs.Prelude.{◌≡◌, ◌||◌, ◌++◌, ◌∷◌, List, [], true, false, Ok, None, IfOk, IfErr, IfSome, OnErr};
 ghost use Rattle.vme_vcd_reader.specs.declared.bits.Level.{Level};
 ghost use Rattle.vme_vcd_reader.specs.declared.body.Place.TheVariants.{Gap};
 ghost use Rattle.vme_vcd_reader.specs.Bodies.{Reading, Broken, End, byte_taken, samples_of, time_taken};
-ghost use Rattle.vme_vcd_reader.specs.declared.fault.VcdFault.{VcdFault};
-ghost use Rattle.vme_vcd_reader.specs.declared.fault.VcdFault.TheVariants.{TimeFalls};
+ghost use Rattle.vme_vcd_reader.specs.declared.fault.VcdFault.TheVariants.{Memory, TimeFalls};
+ghost use Rattle.vme_vcd_reader.specs.declared.reader.Step.TheVariants.{More, Header as HeaderRead};
+ghost use Rattle.vme_line_map.specs.Variables.{Map};
 ghost use Rattle.vme_vcd_reader.specs.Faults.{byte_fault, end_fault};
-ghost use Rattle.vme_vcd_reader.specs.Headers.{Heading, Rejects, beginning, byte_read};
-ghost use Rattle.vme_vcd_reader.specs.Headings.{IsHeading};
+ghost use Rattle.vme_vcd_reader.specs.Found.{IsMapFault, IsMatching};
+ghost use Rattle.vme_vcd_reader.specs.Headers.{Heading, beginning, byte_read, is_long};
+ghost use Rattle.vme_vcd_reader.specs.Mapping.{Declaration, declaration};
+ghost use Rattle.vme_vcd_reader.specs.Matches.{lines_of};
+ghost use Rattle.vme_vcd_reader.specs.Openings.{opening_of};
 ghost use Rattle.vme_vcd_reader.specs.Levels.{IsValue, value_of};
 ghost use Rattle.vme_vcd_reader.specs.Ports.{without_changes};
-ghost use Rattle.vme_vcd_reader.specs.Readers.{Enters, IsBefore, IsBroken, IsBrokenText, IsReading, ReportsLast, TakesHeading, TakesLine, TakesRead, rows_of, samples_left};
+ghost use Rattle.vme_vcd_reader.specs.Readers.{Enters, EntersBody, IsBefore, IsHeader, IsHeadingFault, IsBroken, IsBrokenText, IsReading, ReportsLast, TakesHeading, TakesLine, TakesRead, rows_of, samples_left};
 ghost use Rattle.vme_vcd_reader.specs.Tables.{IsLinked, has_variable, variables_after};
 ghost use Rattle.vme_vcd_reader.specs.Words.{is_blank};
 
@@ -72,10 +76,9 @@ impl<'a> VcdReader<'a> {
     /// An allocation failed.
     pub fn new(alloc: Global, map: &'a LineMap) -> Result<VcdReader<'a>, VcdFault>
         ensures before { IfOk result IsBefore }
-        ensures heading { IfOk result (λ v. IsHeading beginning v.header) }
+        ensures heading { IfOk result (IsHeader map.now beginning []) }
     {
-        let mut matching = Matching::new(alloc);
-        matching.begin(map)?;
+        let matching = Matching::new(alloc, map)?;
         Ok(VcdReader {
             map,
             header: Header::new(alloc),
@@ -154,10 +157,10 @@ impl<'a> VcdReader<'a> {
     #[inline]
     pub fn push(&mut self, byte: u8) -> Result<Step, VcdFault>
         ensures header { IsBefore self.old → IfOk result (λ step. Enters step self.new) }
-        ensures heading { (h : Heading) → IsHeading h self.old.header → self.old.is_body ≡ false →
-            IfOk result (λ step. TakesHeading (byte_read h byte) step self.new) }
-        ensures rejects { (h : Heading) (why : VcdFault) → IsHeading h self.old.header → self.old.is_body ≡ false →
-            byte_read h byte ≡ Rejects why → IfErr result (λ fault. fault ≡ why) }
+        ensures heading { (map : Map) (h : Heading) (ds : List Declaration) → IsHeader map h ds self.old →
+            IfOk result (λ step. TakesHeading map (byte_read h byte) ds step self.new) }
+        ensures rejects { (map : Map) (h : Heading) (ds : List Declaration) → IsHeader map h ds self.old →
+            IfErr result (IsHeadingFault (byte_read h byte) (lines_of map ds)) }
         ensures says { (r : Reading) → IsReading r self.old →
             IfOk result (λ step. TakesRead (byte_taken (rows_of self.old) r byte) step self.new) }
         ensures fault { (r : Reading) → IsReading r self.old → OnErr result (IsBroken (rows_of self.old) r byte) }
@@ -184,6 +187,7 @@ impl<'a> VcdReader<'a> {
     /// The time falls.
     #[inline]
     pub fn push_line<'b>(&mut self, text: &'b [u8]) -> Result<Option<(Step, &'b [u8])>, VcdFault>
+        ensures before { self.old.is_body ≡ false → result ≡ Ok None }
         ensures none { IfOk result (λ taken. taken ≡ None → self.new ≡ self.old) }
         ensures says { (r : Reading) → IsReading r self.old →
             IfOk result (λ taken. IfSome taken (λ taken. TakesLine (rows_of self.old) r text.now taken.1.now taken.0 self.new)) }
@@ -277,24 +281,50 @@ impl<'a> VcdReader<'a> {
     /// Takes a byte of the header.
     fn push_header(&mut self, byte: u8) -> Result<Step, VcdFault>
         ensures header { IsBefore self.old → IfOk result (λ step. Enters step self.new) }
-        ensures heading { (h : Heading) → IsHeading h self.old.header → self.old.is_body ≡ false →
-            IfOk result (λ step. TakesHeading (byte_read h byte) step self.new) }
-        ensures rejects { (h : Heading) (why : VcdFault) → IsHeading h self.old.header →
-            byte_read h byte ≡ Rejects why → IfErr result (λ fault. fault ≡ why) }
+        ensures heading { (map : Map) (h : Heading) (ds : List Declaration) → IsHeader map h ds self.old →
+            IfOk result (λ step. TakesHeading map (byte_read h byte) ds step self.new) }
+        ensures rejects { (map : Map) (h : Heading) (ds : List Declaration) → IsHeader map h ds self.old →
+            IfErr result (IsHeadingFault (byte_read h byte) (lines_of map ds)) }
     {
-        match self.header.push(byte)? {
+        let progress = match self.header.push(byte) {
+            Ok(progress) => progress,
+            Err(fault) => return Err(fault),
+        };
+        match progress {
             Progress::More => Ok(Step::More),
-            Progress::Variable => {
-                self.header.map_variable(self.map, &mut self.matching)?;
-                Ok(Step::More)
-            }
-            Progress::Ended => {
-                self.presence = self.matching.end(self.map, &mut self.table)?;
-                self.bus.set_has_busy(self.presence.busy);
-                self.is_body = true;
-                Ok(Step::Header)
-            }
+            Progress::Variable => self.take_variable(),
+            Progress::Ended => self.enter(),
         }
+    }
+
+    /// Takes the variable that the header has declared.
+    fn take_variable(&mut self) -> Result<Step, VcdFault>
+        ensures header { (map : Map) (h : Heading) (ds : List Declaration) → IsHeader map h ds self.old → is_long h.name ≡ false →
+            IfOk result (λ step. (step ≡ More) × IsHeader map h (ds ++ declaration h ∷ []) self.new) }
+        ensures before { IsBefore self.old → IfOk result (λ step. Enters step self.new) }
+        ensures fault { IfErr result (λ fault. fault ≡ Memory) }
+    {
+        match self.header.map_variable(self.map, &mut self.matching) {
+            Ok(()) => Ok(Step::More),
+            Err(_) => Err(VcdFault::Memory),
+        }
+    }
+
+    /// Begins with the body.
+    fn enter(&mut self) -> Result<Step, VcdFault>
+        ensures body { (ds : List Declaration) → IsBefore self.old → IsMatching self.old.map.now ds self.old.matching →
+            IfOk result (λ step. (step ≡ HeaderRead) × EntersBody (lines_of self.old.map.now ds) self.new) }
+        ensures fault { (ds : List Declaration) → IsBefore self.old → IsMatching self.old.map.now ds self.old.matching →
+            IfErr result (IsMapFault (lines_of self.old.map.now ds)) }
+        ensures header { IsBefore self.old → IfOk result (λ step. Enters step self.new) }
+    {
+        if let Err(fault) = self.matching.end(self.map, &mut self.table) {
+            return Err(fault);
+        }
+        self.presence = self.table.presence();
+        self.bus.set_has_busy(self.presence.busy);
+        self.is_body = true;
+        Ok(Step::Header)
     }
 
     /// Takes a byte of the body.

@@ -1,9 +1,11 @@
 //! The variables that are mapped, by their identifiers.
 ghost use Rattle.std.specs.Prelude.{◌≡◌, ◌≤◌, ◌<◌, [], ◌∷◌, ◌++◌, length, nat_lt, IfOk, IsTrue, IsFalse};
+ghost use Rattle.vme_vcd_reader.specs.Presences.{presence_of};
 ghost use Rattle.vme_vcd_reader.specs.Tables.{IsLinked, IsLink, has_variable, place_of, variables_after, variables_of};
 
 use crate::bits::Bits;
 use crate::bus::BusLines;
+use crate::presence::Presence;
 use crate::variable::Mapped;
 use std::alloc::{AllocError, Global};
 
@@ -53,7 +55,8 @@ impl Table {
 
     /// Allocates the lists.
     pub(crate) fn begin(&mut self) -> Result<(), AllocError>
-        ensures { self.old.rows.items ≡ [] → self.old.heads.items ≡ [] →
+        ensures rows { self.new.rows.items ≡ self.old.rows.items }
+        ensures linked { self.old.rows.items ≡ [] → self.old.heads.items ≡ [] →
             IfOk result (λ _. IsLinked self.new.rows.items self.new.heads.items) }
     {
         for _place in 0..PLACES {
@@ -68,6 +71,7 @@ impl Table {
             IsLinked self.new.rows.items self.new.heads.items) }
         ensures added { IfOk result (λ added. IsTrue added →
             variables_of self.new.rows.items ≡ variables_of self.old.rows.items ++ (identifier, mapped) ∷ []) }
+        ensures few { IfOk result (λ added. IsTrue added → length self.new.rows.items ≤ 1000) }
         ensures full { IfOk result (λ added. IsLinked self.old.rows.items self.old.heads.items →
             added ≡ nat_lt (length self.old.rows.items) 1000) }
     {
@@ -87,6 +91,17 @@ impl Table {
         })?;
         self.heads[place] = number;
         Ok(true)
+    }
+
+    /// Returns which lines the dump has.
+    pub(crate) fn presence(&self) -> Presence
+        ensures { result ≡ presence_of (variables_of self.now.rows.items) }
+    {
+        let mut presence = Presence::NONE;
+        for row in self.rows.iter() {
+            presence = presence.with_lines(row.mapped.group);
+        }
+        presence
     }
 
     /// Returns the number of the last variable in the list of an identifier, from 1, or 0.

@@ -1,21 +1,13 @@
 //! A variable of the header.
-ghost use Rattle.std.specs.Prelude.{◌≡◌, ◌<◌, ◌==◌, length, IfSome};
+ghost use Rattle.std.specs.Prelude.{◌≡◌, ◌<◌, ◌≤◌, ◌+◌, ◌-◌, ◌^◌, ◌==◌, length, IfSome};
 ghost use Rattle.std.specs.List.{position};
 ghost use Rattle.std.specs.Option.{option_map};
 ghost use Rattle.vme_vcd_reader.specs.Headers.{small_number, with_small_digit};
+ghost use Rattle.vme_line_map.specs.Variables.{shown};
+ghost use Rattle.vme_vcd_reader.specs.Mapping.{declaration_of, lowest_address, lowest_line, mapped_of, right_of, span_of};
 ghost use Rattle.vme_vcd_reader.specs.Ranges.{cut_range, last_place, named, range_of};
 
-use crate::word::Word;
 use vme_line_map::{Group, Place, Wanted};
-
-/// A variable of the header: its name without the range, its size and its range.
-#[derive(Clone, Copy)]
-pub(crate) struct Variable<'a> {
-    pub(crate) name: &'a [u8],
-    pub(crate) size: u16,
-    /// The indices of its first and its last bit, if it has a range.
-    pub(crate) range: Option<(u16, u16)>,
-}
 
 /// Which bits of a variable are which lines of their group.
 #[derive(Clone, Copy, Debug, PartialEq, Eq)]
@@ -31,28 +23,16 @@ pub(crate) struct Mapped {
     pub(crate) is_inverted: bool,
 }
 
-/// Returns the variable with this name, to which a range may be appended.
-pub(crate) fn named_variable(name: &Word, size: u16) -> Variable<'_>
-    ensures name { result.name.now ≡ (named name.now.bytes.items).0 }
-    ensures range { result.range ≡ (named name.now.bytes.items).1 }
-    ensures size { result.size ≡ size }
+/// Returns the name without the range that may be appended, and the range.
+pub(crate) fn named_variable(name: &[u8]) -> (&[u8], Option<(u16, u16)>)
+    ensures { (result.0.now, result.1) ≡ named name.now }
 {
-    let whole = name.bytes();
-    let plain = Variable {
-        name: whole,
-        size,
-        range: None,
-    };
-    let Some((name, inner)) = cut_range(whole) else {
-        return plain;
+    let Some((before, inner)) = cut_range(name) else {
+        return (name, None);
     };
     match range_of(inner) {
-        Some(range) => Variable {
-            name,
-            size,
-            range: Some(range),
-        },
-        None => plain,
+        Some(range) => (before, Some(range)),
+        None => (name, None),
     }
 }
 
@@ -124,86 +104,125 @@ pub(crate) fn number(digits: &[u8]) -> Option<u16>
     Some(number)
 }
 
-impl Variable<'_> {
-    /// The least index of its bits, if it has a range.
-    fn least(&self) -> Option<u16> {
-        let (one, other) = self.range?;
-        Some(one.min(other))
-    }
+/// A variable that the header declares.
+#[derive(Clone, Copy)]
+pub(crate) struct Declared<'a> {
+    /// Its path, without the range behind it.
+    pub(crate) path: &'a [u8],
+    /// The number of scopes that were opened before it.
+    pub(crate) scope: u64,
+    pub(crate) identifier: u64,
+    pub(crate) size: u16,
+    /// The indices of its first and its last bit, if it has a range.
+    pub(crate) range: Option<(u16, u16)>,
+}
 
-    /// Returns which bits are lines, or `None` if they are others than the map says, or more than 64.
-    pub(crate) fn mapped(&self, wanted: &Wanted<'_>) -> Option<Mapped> {
-        if self.size < 1 || 64 < self.size {
-            return None;
-        }
-        let (right, first, count) = match wanted.place {
-            Place::From(first) => (0, u16::from(first), self.size),
-            Place::Ranged(more) => (
-                0,
-                self.ranged(wanted.group)?.checked_add(u16::from(more))?,
-                self.size,
-            ),
-            Place::Bits { high, low, first } => {
-                let right = self.place_of(high)?.min(self.place_of(low)?);
-                (
-                    right,
-                    u16::from(first),
-                    (high.checked_sub(low)?).checked_add(1)?,
-                )
-            }
-        };
-        let end = first.checked_add(count)?;
-        if u16::from(wanted.group.lines()) < end {
-            return None;
-        }
-        Some(Mapped {
-            group: wanted.group,
-            right: u8::try_from(right).ok()?,
-            first: u8::try_from(first).ok()?,
-            mask: mask_between(first, end),
-            size: self.size,
-            is_inverted: wanted.is_inverted,
-        })
-    }
+/// Some bits of a variable as lines.
+#[derive(Clone, Copy, Debug)]
+pub(crate) struct Span {
+    /// The bits before the first line, from the right.
+    right: u32,
+    /// The line of that bit.
+    first: u32,
+    count: u32,
+}
 
-    /// The line of its last bit, if it has all bits from some line on.
-    fn ranged(&self, group: Group) -> Option<u16> {
-        if let Some(least) = self.least() {
-            return Some(least);
-        }
-        if group != Group::Address {
-            return Some(0);
-        }
-        Some(if self.size % 2 == 1 {
-            1
-        } else if self.size % 8 == 6 {
-            2
-        } else {
-            0
-        })
+/// The number of bits right of that with an index.
+fn right_of(range: Option<(u16, u16)>, index: u16) -> u16
+    ensures { result ≡ right_of range index }
+{
+    match range {
+        Some((_, last)) => index.max(last) - index.min(last),
+        None => index,
     }
+}
 
-    /// The number of bits right of that with an index.
-    fn place_of(&self, index: u16) -> Option<u16> {
-        let Some((_, last)) = self.range else {
-            return Some(index).filter(|place| *place < self.size);
-        };
-        let place = index.abs_diff(last);
-        Some(place).filter(|place| *place < self.size)
+/// The lowest line of an address whose variable has no range.
+fn lowest_address(size: u16) -> u16
+    ensures { result ≡ lowest_address size }
+{
+    if size % 2 == 1 {
+        1
+    } else if size % 8 == 6 {
+        2
+    } else {
+        0
+    }
+}
+
+/// The lowest line of a variable that has all bits from some line on.
+fn lowest_line(group: Group, size: u16, range: Option<(u16, u16)>) -> u16
+    ensures { result ≡ lowest_line group size range }
+{
+    match (range, group) {
+        (Some((one, other)), _) => one.min(other),
+        (None, Group::Address) => lowest_address(size),
+        (None, _) => 0,
     }
 }
 
 /// The lines from one to before another, of at most 32.
-fn mask_between(first: u16, end: u16) -> u32 {
-    let below_end = below(end);
-    below_end & !below(first)
+fn lines_between(first: u32, end: u32) -> u32
+    requires order { first ≤ end }
+    requires most { end ≤ 32 }
+    ensures { result ≡ 2 ^ end - 2 ^ first }
+{
+    ((1u64 << end) - (1u64 << first)) as u32
 }
 
-/// The lines below a number.
-fn below(end: u16) -> u32 {
-    if 32 <= end {
-        u32::MAX
-    } else {
-        1u32.wrapping_shl(u32::from(end)).wrapping_sub(1)
+/// The bits that a place says.
+fn span_of(group: Group, place: Place, size: u16, range: Option<(u16, u16)>) -> Option<Span>
+    ensures span { result ≡ span_of group place size range }
+    ensures within { 1 ≤ size → IfSome result (λ s. s.right < size) }
+    ensures some { 1 ≤ size → IfSome result (λ s. 1 ≤ s.count) }
+    ensures few { IfSome result (λ s. s.first + s.count < 2 ^ 18) }
+{
+    match place {
+        Place::From(first) => Some(Span {
+            right: 0,
+            first: u32::from(first),
+            count: u32::from(size),
+        }),
+        Place::Ranged(more) => Some(Span {
+            right: 0,
+            first: u32::from(lowest_line(group, size, range)) + u32::from(more),
+            count: u32::from(size),
+        }),
+        Place::Bits { high, low, first } => {
+            let (above, below) = (right_of(range, high), right_of(range, low));
+            if above < size && below < size && low <= high {
+                Some(Span {
+                    right: u32::from(above.min(below)),
+                    first: u32::from(first),
+                    count: u32::from(high - low) + 1,
+                })
+            } else {
+                None
+            }
+        }
+    }
+}
+
+impl Declared<'_> {
+    /// Returns which bits are lines, or `None` if they are others than the map says, or more than 64.
+    pub(crate) fn mapped(&self, wanted: &Wanted<'_>) -> Option<Mapped>
+        ensures { result ≡ mapped_of (shown wanted.now) (declaration_of self.now) }
+    {
+        if self.size < 1 || 64 < self.size {
+            return None;
+        }
+        let span = span_of(wanted.group, wanted.place, self.size, self.range)?;
+        let end = span.first + span.count;
+        if u32::from(wanted.group.lines()) < end {
+            return None;
+        }
+        Some(Mapped {
+            group: wanted.group,
+            right: span.right as u8,
+            first: span.first as u8,
+            mask: lines_between(span.first, end),
+            size: self.size,
+            is_inverted: wanted.is_inverted,
+        })
     }
 }

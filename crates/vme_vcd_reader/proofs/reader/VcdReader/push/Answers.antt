@@ -6,10 +6,10 @@ use Rattle.vme_vcd_reader.proofs.reader.VcdReader.push.Goals as goal
 use Rattle.vme_vcd_reader.proofs.reader.VcdReader.push.Goals.{then-self+in_ok-step, else-self+in_ok-step-2}
 
 pub returns-then-byte-eq10-clause-heading : goal.returns-then-byte-eq10-clause-heading
-returns-then-byte-eq10-clause-heading c = λ h is before.
-    let takes : TakesHeading (byte_read h c.args.byte) c.if-self.step c.if-self.self =
+returns-then-byte-eq10-clause-heading c = λ map h ds is.
+    let takes : TakesHeading map (byte_read h c.args.byte) ds c.if-self.step c.if-self.self =
     elim c.if-self.branch [
       | then-self+in_ok-step w ↦ first_of (search rules, grind arith)
       | else-self+in_ok-step-2 w ↦ first_of (search rules, grind arith)
     ] in
-    takes_line (byte_read h c.args.byte) c.if-self.step c.if-self.self _ takes
+    takes_line map (byte_read h c.args.byte) ds c.if-self.step c.if-self.self _ takes
