@@ -19,6 +19,7 @@ impl<A: Operation<ByteMemory>> Operation<BusObject> for BoardOperation<'_, A> {
 
     ghost command = { λ o. commands.Board (A.command o.operation.now) };
 
+    #[inline(always)]
     fn perform(&self, object: &mut BusObject) -> EventReply {
         match object {
             BusObject::Board(memory) => EventReply::Board(self.operation.perform(memory)),

@@ -1,4 +1,4 @@
-ghost use Rattle.std.specs.Prelude.{IfOk};
+ghost use Rattle.std.specs.Prelude.{◌≡◌, Ok, None, IfOk, IfSome};
 ghost use Rattle.vme_memory.specs.Locals.{command_given};
 ghost use Rattle.vme_core.specs.declared.event.EventReply.TheVariants as replies;
 ghost use Rattle.vme_core.specs.Calls.{OnBoard, OnBus};
@@ -9,7 +9,7 @@ use vme_core::{DatumCycle, EventRef, EventReply};
 use vme_memory::{BoardCmd, Reply};
 
 /// What makes the calls of a task for one processor, such as the processor's pass on a thread. It
-/// makes each call with a context, `E`. `can` states when it can be asked for a call, and `performs`
+/// makes each call with a context, `E`. A method whose name begins with `try` never waits. `can` states when it can be asked for a call, and `performs`
 /// that it made a call and got a reply. No clause states the cause of a fault, nor what the caller
 /// is after one.
 pub trait Caller<E> {
@@ -31,6 +31,18 @@ pub trait Caller<E> {
     fn command_bus(&mut self, with: &E, cmd: &ArbCmd) -> Result<ArbReply, Self::Fault>
         requires { can with.now self.old (OnBus cmd.now) }
         ensures { IfOk result (λ reply. performs (OnBus cmd.now) (replies.Bus reply) self.old self.new) };
+
+    /// Performs a command on the arbiter if the caller can do so without waiting, and returns its
+    /// reply, or `None` if it can't.
+    ///
+    /// # Errors
+    ///
+    /// The fault of the call.
+    fn try_command_bus(&mut self, with: &E, cmd: &ArbCmd) -> Result<Option<ArbReply>, Self::Fault>
+        requires { can with.now self.old (OnBus cmd.now) }
+        ensures made { IfOk result (λ tried. IfSome tried (λ reply.
+            performs (OnBus cmd.now) (replies.Bus reply) self.old self.new)) }
+        ensures not_now { result ≡ Ok None → self.new ≡ self.old };
 
     /// Performs a command on the board at index `board`, and returns its reply.
     ///
@@ -61,6 +73,23 @@ pub trait Caller<E> {
         requires { can with.now self.old (OnBoard board (command_given cycle.now)) }
         ensures { IfOk result (λ reply.
             performs (OnBoard board (command_given cycle.now)) (replies.Board reply) self.old self.new) };
+
+    /// Moves a datum of a transfer, as `transfer_datum` does, if the caller can do so without
+    /// waiting, and returns the board's reply, or `None` if it can't.
+    ///
+    /// # Errors
+    ///
+    /// The fault of the call.
+    fn try_datum(
+        &mut self,
+        with: &E,
+        board: usize,
+        cycle: &DatumCycle<'_>,
+    ) -> Result<Option<Reply>, Self::Fault>
+        requires { can with.now self.old (OnBoard board (command_given cycle.now)) }
+        ensures made { IfOk result (λ tried. IfSome tried (λ reply.
+            performs (OnBoard board (command_given cycle.now)) (replies.Board reply) self.old self.new)) }
+        ensures not_now { result ≡ Ok None → self.new ≡ self.old };
 }
 
 /// Performs an event by one call of `caller`, and returns the reply.

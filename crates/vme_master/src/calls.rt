@@ -1,5 +1,5 @@
 //! The calls of a task: on a core, or by a caller.
-ghost use Rattle.std.specs.Prelude.{◌≡◌, ◌≢◌, ◌<◌, Some, None, IfSome, IfOk, IfErr};
+ghost use Rattle.std.specs.Prelude.{◌≡◌, ◌≢◌, ◌<◌, Ok, Some, None, IfSome, IfOk, IfErr};
 ghost use Rattle.vme_arbiter.specs.declared.command.ArbCmd.{ArbCmd as AnyArbCmd};
 ghost use Rattle.vme_core.specs.Advances.{CanMake, AdvancesOn, ends_by_call};
 ghost use Rattle.vme_core.specs.Calls.{OnBus};
@@ -69,6 +69,89 @@ impl Task<'_> {
     /// The fault of the call. The task is unchanged.
     #[inline(always)]
     pub fn step_by<E, C>(&mut self, caller: &mut C, with: &E) -> Result<bool, C::Fault>
+    where
+        C: Caller<E>,
+        requires { IfSome (call_in (to_do self.old)) (C.can with.now caller.old) }
+        ensures step { IfOk result (λ _.
+            AdvancesBy C.performs to_do advance caller.old caller.new self.old self.new) }
+        ensures ended { IfOk result (λ ended. ended ≡ ends_by_call to_do self.old self.new) }
+        ensures unchanged { IfErr result (λ _. self.new ≡ self.old) }
+    {
+        match self.try_step_by(caller, with)? {
+            Some(ended) => Ok(ended),
+            None => self.step_by_waiting(caller, with),
+        }
+    }
+
+    /// Performs the next event as `step_by` does, if it is an event on the bus and `caller` can make
+    /// its call without waiting. Otherwise nothing changes, and it returns `None`.
+    ///
+    /// # Errors
+    ///
+    /// The fault of the call. The task is unchanged.
+    #[inline(always)]
+    pub fn try_step_by<E, C>(&mut self, caller: &mut C, with: &E) -> Result<Option<bool>, C::Fault>
+    where
+        C: Caller<E>,
+        requires { IfSome (call_in (to_do self.old)) (C.can with.now caller.old) }
+        ensures step { IfOk result (λ tried. IfSome tried (λ _.
+            AdvancesBy C.performs to_do advance caller.old caller.new self.old self.new)) }
+        ensures ended { IfOk result (λ tried. IfSome tried (λ ended.
+            ended ≡ ends_by_call to_do self.old self.new)) }
+        ensures same_caller { result ≡ Ok None → caller.new ≡ caller.old }
+        ensures same_task { result ≡ Ok None → self.new ≡ self.old }
+        ensures unchanged { IfErr result (λ _. self.new ≡ self.old) }
+    {
+        let (Job::Bus(job), Phase::Transferring { i }) = (&self.job, self.phase) else {
+            return self.try_step_by_bus(caller, with);
+        };
+        let Some((board, offset)) = job.place else {
+            return Ok(None);
+        };
+        let cycle = job.datum_at(board, offset, i);
+        let Some(reply) = caller.try_datum(with, board, &cycle)? else {
+            return Ok(None);
+        };
+        self.on_board_reply(Phase::Transferring { i }, &reply);
+        Ok(Some(self.is_finished()))
+    }
+
+    /// Performs the next event as `try_step_by` does, if it is a command to the arbiter. Otherwise
+    /// nothing changes, and it returns `None`.
+    ///
+    /// # Errors
+    ///
+    /// The fault of the call. The task is unchanged.
+    #[inline(always)]
+    fn try_step_by_bus<E, C>(&mut self, caller: &mut C, with: &E) -> Result<Option<bool>, C::Fault>
+    where
+        C: Caller<E>,
+        requires { IfSome (call_in (to_do self.old)) (C.can with.now caller.old) }
+        ensures step { IfOk result (λ tried. IfSome tried (λ _.
+            AdvancesBy C.performs to_do advance caller.old caller.new self.old self.new)) }
+        ensures ended { IfOk result (λ tried. IfSome tried (λ ended.
+            ended ≡ ends_by_call to_do self.old self.new)) }
+        ensures same_caller { result ≡ Ok None → caller.new ≡ caller.old }
+        ensures same_task { result ≡ Ok None → self.new ≡ self.old }
+        ensures unchanged { IfErr result (λ _. self.new ≡ self.old) }
+    {
+        let Some(cmd) = self.bus_command() else {
+            return Ok(None);
+        };
+        let Some(reply) = caller.try_command_bus(with, &cmd)? else {
+            return Ok(None);
+        };
+        self.on_bus_reply(self.phase, reply);
+        Ok(Some(self.is_finished()))
+    }
+
+    /// Performs the next event as `step_by` does, by a call that may wait, without trying it first.
+    ///
+    /// # Errors
+    ///
+    /// The fault of the call. The task is unchanged.
+    #[inline(never)]
+    pub fn step_by_waiting<E, C>(&mut self, caller: &mut C, with: &E) -> Result<bool, C::Fault>
     where
         C: Caller<E>,
         requires { IfSome (call_in (to_do self.old)) (C.can with.now caller.old) }

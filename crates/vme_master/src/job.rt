@@ -33,6 +33,7 @@ pub struct BusJob<'a> {
 
 impl BusJob<'_> {
     /// The cycle of datum `i`, by the board and the offset of the first datum.
+    #[inline(always)]
     pub(crate) fn datum_at(&self, board: usize, offset: u32, i: u16) -> DatumCycle<'_>
         requires in_count { i < count_of self.now.transfer.request }
         requires placed { IsPlaced (Job.Bus self.now) }

@@ -82,6 +82,34 @@ impl<O: Object> PortArray<O> {
     }
 
     /// Performs one operation on the object at an index if no other pass holds it, and returns the
+    /// reply. The new entry has the command that the operation stands for (`A.command`). It never
+    /// waits.
+    ///
+    /// # Errors
+    /// `Busy` if another pass holds the object, and `Spent` if the object's part of the history has
+    /// 2^64 - 1 entries. Neither adds an entry.
+    #[inline(always)]
+    pub fn try_operation<A: Operation<O>>(
+        &self,
+        pass: &mut Pass<O>,
+        index: usize,
+        asked: &A,
+    ) -> Result<O::Reply, TryFault>
+        requires array { IsPassOf self.now pass.old }
+        requires index { index < objects_of self.now }
+        ensures pass { IsPassOf self.now pass.new }
+        ensures adds { UnlessBusy result
+            (Adds O.step (opening self.now)
+            (entries_of pass.old.who index (A.command asked.now) result) pass.old pass.new) }
+        ensures busy { IfBusy result (pass.new ≡ pass.old) }
+        ensures shared { IfBusy result (2 ≤ passes_of self.now) }
+        ensures full { IfSpent result (length (part index pass.new.seen) ≡ 2 ^ 64 - 1) }
+        ensures counted { IfOk result (λ _. length (part index pass.new.seen) < 2 ^ 64) }
+    {
+        self.attempt::<A, OneWaiter>(pass, index, asked, Taking::Alone)
+    }
+
+    /// Performs one operation on the object at an index if no other pass holds it, and returns the
     /// reply. It never waits, and wakes no call: all calls of the array must be of this kind, or a
     /// call that waits may sleep for ever.
     ///

@@ -1,4 +1,4 @@
-ghost use Rattle.std.specs.Prelude.{◌≡◌, ◌<◌, ◌≤◌, ◌∷◌, [], ℕ, length, slice_get, Some, IfOk, IsSome};
+ghost use Rattle.std.specs.Prelude.{◌≡◌, ◌<◌, ◌≤◌, ◌∷◌, [], ℕ, length, slice_get, Ok, Some, None, IfOk, IfSome, IsSome};
 ghost use Rattle.vme_core.specs.declared.event.Event.TheVariants as events;
 ghost use Rattle.vme_core.specs.declared.event.EventReply.TheVariants as replies;
 ghost use Rattle.vme_core.specs.NextSteps.{result_in};
@@ -26,7 +26,7 @@ use vme_line_task::LineTask;
 use vme_master::Caller;
 use vme_memory::{BoardCmd, ByteMemory, Reply};
 use vme_object::{CommandRef, Operation};
-use vme_port::Spent;
+use vme_port::{Spent, TryFault};
 use vme_port_array::Pass;
 use vme_script::Config;
 use vme_shared::LineReply;
@@ -109,6 +109,74 @@ impl ProcessorPass {
         };
         self.made[board] += 1;
         Ok(reply)
+    }
+
+    /// Performs one command on the arbiter, and returns its reply, if that needs no wait: if there
+    /// is no other processor, and no other pass holds the arbiter. Otherwise nothing changes, and it
+    /// returns `None`.
+    ///
+    /// # Errors
+    /// `Spent` if the arbiter has made 2^64 - 1 steps.
+    #[inline(always)]
+    fn try_bus(&mut self, ports: &Ports, cmd: &ArbCmd) -> Result<Option<ArbReply>, Spent>
+        requires { MatchesPorts ports.now self.old }
+        ensures made { IfOk result (λ tried. IfSome tried (λ reply.
+            AddsTransitions (move self.old.who (events.Bus cmd.now) (replies.Bus reply) ∷ []) self.old self.new)) }
+        ensures not_now { result ≡ Ok None → self.new ≡ self.old }
+    {
+        if self.boards != 1 {
+            return Ok(None);
+        }
+        replies_have_their_kind();
+        let operation = ArbiterOperation { cmd };
+        match ports
+            .array
+            .try_operation(&mut self.pass, self.boards, &operation)
+        {
+            Ok(reply) => {
+                let EventReply::Bus(reply) = reply else {
+                    unreachable!()
+                };
+                self.made[self.boards] += 1;
+                Ok(Some(reply))
+            }
+            Err(TryFault::Busy) => Ok(None),
+            Err(TryFault::Spent) => Err(Spent),
+        }
+    }
+
+    /// Performs one operation on the board at index `board`, and returns the board's reply, if no
+    /// other pass holds the board. Otherwise nothing changes, and it returns `None`.
+    ///
+    /// # Errors
+    /// `Spent` if the board has made 2^64 - 1 steps.
+    #[inline(always)]
+    fn try_board<A: Operation<ByteMemory>>(
+        &mut self,
+        ports: &Ports,
+        board: usize,
+        cmd: &A,
+    ) -> Result<Option<Reply>, Spent>
+        requires fits { MatchesPorts ports.now self.old }
+        requires there { board < self.old.boards }
+        ensures made { IfOk result (λ tried. IfSome tried (λ reply.
+            AddsTransitions (move self.old.who (events.Board board (A.command cmd.now)) (replies.Board reply) ∷ [])
+            self.old self.new)) }
+        ensures not_now { result ≡ Ok None → self.new ≡ self.old }
+    {
+        replies_have_their_kind();
+        let operation = BoardOperation { operation: cmd };
+        match ports.array.try_operation(&mut self.pass, board, &operation) {
+            Ok(reply) => {
+                let EventReply::Board(reply) = reply else {
+                    unreachable!()
+                };
+                self.made[board] += 1;
+                Ok(Some(reply))
+            }
+            Err(TryFault::Busy) => Ok(None),
+            Err(TryFault::Spent) => Err(Spent),
+        }
     }
 
     /// Runs one line of the script attempt by attempt, until it has its reply. `line` is the index
@@ -207,6 +275,15 @@ impl<R: Wait> Caller<CallContext<'_, R>> for ProcessorPass {
         self.call_bus(with.rt, with.ports, cmd)
     }
 
+    #[inline(always)]
+    fn try_command_bus(
+        &mut self,
+        with: &CallContext<'_, R>,
+        cmd: &ArbCmd,
+    ) -> Result<Option<ArbReply>, Spent> {
+        self.try_bus(with.ports, cmd)
+    }
+
     fn command_board(
         &mut self,
         with: &CallContext<'_, R>,
@@ -224,5 +301,15 @@ impl<R: Wait> Caller<CallContext<'_, R>> for ProcessorPass {
         cycle: &DatumCycle<'_>,
     ) -> Result<Reply, Spent> {
         self.call_board(with.rt, with.ports, board, cycle)
+    }
+
+    #[inline(always)]
+    fn try_datum(
+        &mut self,
+        with: &CallContext<'_, R>,
+        board: usize,
+        cycle: &DatumCycle<'_>,
+    ) -> Result<Option<Reply>, Spent> {
+        self.try_board(with.ports, board, cycle)
     }
 }
