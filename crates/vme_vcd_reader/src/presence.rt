@@ -33,7 +33,7 @@ impl Presence {
         ports: 0,
     };
 
-    /// Returns the same with the lines of a group.
+    /// Returns these lines and those of a group.
     pub(crate) fn with_lines(self, group: Group) -> Presence
         ensures { result ≡ with_lines self group }
     {
