@@ -127,8 +127,8 @@ module _ (config : Configuration) (lawful : IsLawful config) where
   shown_busy found released v = if is_some found then Low else (if released then High else v)
 
   -- what an event shows of the holder and of BBSY* is what the arbiter has after it
-  record IsHeld (before : Arbitration) (activity : Activity) (found : Option Grant) (after : Arbitration) : Type 0 where
-    seated : IsSeated after
+  pub record IsHeld (before : Arbitration) (activity : Activity) (found : Option Grant) (after : Arbitration) : Type 0 where
+    pub seated : IsSeated after
     holder : shown_holder found (releases activity) (holder_shown before.holder) ≡ holder_shown after.holder
     busy : shown_busy found (releases activity) (level_of (is_none before.holder)) ≡ level_of (is_none after.holder)
 
@@ -215,7 +215,7 @@ module _ (config : Configuration) (lawful : IsLawful config) where
   step_held before after own Other reply call there is step seated = absurd is
 
   -- what an event shows of the holder, with its own grant
-  event_held : (before after : Machine) (o : Observation) → IsStepShown config before o after → IsSeated before.bus.object
+  pub event_held : (before after : Machine) (o : Observation) → IsStepShown config before o after → IsSeated before.bus.object
       → IsHeld before.bus.object o.activity o.grant after.bus.object
   event_held before after o step seated =
       subst (λ (g : Option Grant). IsHeld before.bus.object o.activity g after.bus.object) (sym step.grant)
