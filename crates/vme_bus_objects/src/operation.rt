@@ -41,8 +41,7 @@ impl Operation<BusObject> for ArbiterOperation<'_> {
 
     ghost command = { λ o. commands.Arbiter o.cmd.now };
 
-    // Not inlined into the call of a port (docs/DECISIONS.md, Attributes for the compiler are measured).
-    #[inline(never)]
+    #[inline(always)]
     fn perform(&self, object: &mut BusObject) -> EventReply {
         match object {
             BusObject::Board(_) => EventReply::Board(Reply::Berr),

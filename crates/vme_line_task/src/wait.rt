@@ -87,6 +87,7 @@ impl<'a> AwaitTask<'a> {
 
     /// Begins another read, if this one has ended with other bytes than it waits for and another is
     /// left.
+    #[inline(always)]
     pub(crate) fn retry(&mut self, left: &mut u32)
         ensures attempts { read_attempts self.new left.new ≡
             attempts_again (read_attempts self.old left.old) (attempts_to_do (read_attempts self.old left.old)) }
