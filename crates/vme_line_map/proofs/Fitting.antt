@@ -1,15 +1,12 @@
 -- What fits into a map.
-use Rattle.std.proofs.Common.{◌≡◌, ℕ, zero, suc, ◌+◌, ◌-◌, ◌<◌, ◌≤◌, Bool, true, false, List, [], ◌∷◌, ◌++◌, length, take, get_or, Result, Ok, Err, OnOk, Bor, if◌then◌else◌, refl, sym, ap, ◌∙◌, arith, length-append, append_assoc}
+use Rattle.std.proofs.Common.{◌≡◌, ℕ, zero, suc, ◌+◌, ◌-◌, ◌<◌, ◌≤◌, Bool, true, false, List, [], ◌∷◌, ◌++◌, length, take, get_or, Result, Ok, Err, OnOk, if◌then◌else◌, refl, sym, ap, ◌∙◌, arith, length-append, append_assoc}
 use Rattle.std.specs.Bool.{nat_le}
 use Rattle.std.specs.List.{flat_map}
 use Rattle.std.proofs.lemmas.Grind.{flat_map-append}
 use Rattle.std.proofs.lemmas.Bool.Decides.{nat_tests}
 use Rattle.std.proofs.lemmas.List.{append-nil, length-take, take_all, take_more}
 use Rattle.vme_line_map.specs.Variables.{Variable, Map, most_wanted, added, with_variables, Leaves}
-use Rattle.vme_line_map.specs.Defaults.{plain, slot_name, with_fitting}
-use Rattle.vme_line_map.specs.declared.map.Place.TheVariants.{From}
-use Rattle.vme_line_map.specs.declared.group.Group.{Group}
-use Rattle.vme_line_map.specs.declared.map.Place.{Place}
+use Rattle.vme_line_map.specs.Defaults.{with_fitting}
 use Rattle.vme_line_map.specs.declared.fault.LinesProblem.{LinesProblem}
 use Rattle.vme_line_map.specs.declared.fault.LinesProblem.TheVariants.{TooMany}
 

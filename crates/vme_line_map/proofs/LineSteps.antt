@@ -6,7 +6,6 @@ use Rattle.std.proofs.lemmas.List.{append-nil, map-append, length-map}
 use Rattle.vme_line_map.specs.Variables.{Variable, Map, most_wanted, added, with_variables}
 use Rattle.vme_line_map.specs.Patterns.{numbers_from, variables_between}
 use Rattle.vme_line_map.specs.declared.fault.LinesProblem.{LinesProblem}
-use Rattle.vme_line_map.specs.declared.fault.LinesProblem.TheVariants.{TooMany}
 use Rattle.vme_line_map.proofs.Fitting.{added_ok, added_err}
 
 -- one number more

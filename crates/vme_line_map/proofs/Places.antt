@@ -1,13 +1,20 @@
 -- The place that a name says, step by step.
-use Rattle.std.proofs.Common.{◌≡◌, ℕ, List, Option, Some, None, Bor, Result, Ok, Err, codes, unwrap_or, refl, sym, ap, ◌∙◌}
-use Rattle.std.specs.Option.{option_map}
+use Rattle.std.proofs.Common.{◌≡◌, ℕ, List, Option, Some, None, Bor, Result, Err, codes, unwrap_or, refl, sym, ap, ◌∙◌}
+use Rattle.std.specs.Option.{option_map, ok_or}
 use Rattle.vme_line_map.specs.Texts.{cut, number}
-use Rattle.vme_line_map.specs.Patterns.{ends, bits_in, bits_at}
+use Rattle.vme_line_map.specs.Patterns.{ends, bits_in, bits_of, ◌>>=◌}
 use Rattle.vme_line_map.specs.declared.group.Group.{Group}
 use Rattle.vme_line_map.specs.declared.map.Place.{Place}
 use Rattle.vme_line_map.specs.declared.fault.LinesProblem.{LinesProblem}
 use Rattle.vme_line_map.specs.declared.fault.LinesProblem.TheVariants.{BadBits}
 use Rattle.vme_line_map.proofs.TextCuts.{texts}
+
+-- the bits between two indices that may be no numbers
+abbrev pub bits_at : Group → ℕ → Option ℕ → Option ℕ → Result Place LinesProblem
+bits_at group first from to = do
+  one ← ok_or from BadBits
+  other ← ok_or to BadBits
+  bits_of group first one other
 
 -- the texts of a pair, or of another
 pub unwrap_or-texts : (r : Option (Bor (List ℕ) × Bor (List ℕ))) (x : Bor (List ℕ) × Bor (List ℕ)) → unwrap_or (option_map texts r) (texts x) ≡ texts (unwrap_or r x)

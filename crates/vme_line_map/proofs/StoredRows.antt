@@ -1,10 +1,10 @@
 -- The rows of a map: their names stay when more names are stored.
-use Rattle.std.proofs.Common.{◌≡◌, ℕ, zero, suc, ◌+◌, ◌-◌, ◌<◌, ◌≤◌, List, [], ◌∷◌, ◌++◌, length, take, drop, Some, refl, sym, ap, ◌∙◌, arith, length-append, length-drop}
+use Rattle.std.proofs.Common.{◌≡◌, ℕ, zero, suc, ◌-◌, ◌<◌, ◌≤◌, List, [], ◌∷◌, ◌++◌, length, drop, Some, refl, arith, length-append, length-drop}
 use Rattle.std.specs.List.{slice_get, slice_range}
 use Rattle.std.proofs.lemmas.List.{take-append-le, drop-append-le, take_all, map-append}
 use Rattle.std.proofs.lemmas.Option.{same_Some}
 use Rattle.std.proofs.Math.Seq.{drop-append_seam}
-use Rattle.vme_line_map.specs.Variables.{Variable, most_wanted}
+use Rattle.vme_line_map.specs.Variables.{most_wanted}
 use Rattle.vme_line_map.specs.Rows.{variable_of, variables_of, EndWithin, IsStored}
 use Rattle.vme_line_map.specs.declared.map.Row.{Row}
 

@@ -1,14 +1,14 @@
 -- The cuts of `str` as the cuts of the definitions.
-use Rattle.std.proofs.Common.{◌≡◌, ◌≢◌, ℕ, zero, suc, ◌+◌, ◌-◌, ◌<◌, ◌≤◌, Bool, true, false, ◌==◌, List, [], ◌∷◌, ◌++◌, length, take, drop, Option, Some, None, MatchOption, Bor, if◌then◌else◌, refl, sym, ap, ◌∙◌, arith, length-drop, Result, Ok, Err, ◌^◌, ◌&&◌}
+use Rattle.std.proofs.Common.{◌≡◌, ◌≢◌, ℕ, zero, suc, ◌-◌, ◌<◌, ◌≤◌, Bool, true, false, ◌==◌, List, [], ◌∷◌, ◌++◌, length, take, drop, Option, Some, None, MatchOption, Bor, if◌then◌else◌, refl, sym, ap, ◌∙◌, arith, length-drop, Result, Ok, Err, ◌^◌, ◌&&◌}
 use Rattle.std.specs.Bool.{nat_lt}
 use Rattle.std.specs.Result.{result_ok}
 use Rattle.std.specs.Str.{all_ascii_digits}
 use Rattle.std.specs.Str.Parse.{ParsesUnsigned, digits_value, without_leading_plus}
 use Rattle.std.proofs.lemmas.Str.Parse.{IsNumeralModel, numerals_by_value, tells_all_ascii_digits}
-use Rattle.std.specs.Option.{option_map, option_or}
-use Rattle.std.specs.Str.Pattern.{FindsText, RFindsText, FindsTextPrefix, FindsTextSuffix, LacksTextAt, HasTextAt, SplitsAroundMatch, StripsPrefix, StripsSuffix}
+use Rattle.std.specs.Option.{option_map}
+use Rattle.std.specs.Str.Pattern.{FindsText, RFindsText, FindsTextPrefix, FindsTextSuffix, LacksTextAt, SplitsAroundMatch, StripsPrefix, StripsSuffix}
 use Rattle.std.proofs.lemmas.Bool.Decides.{nat_tests}
-use Rattle.vme_line_map.specs.Texts.{strip, onto, at_front, cut, cut_last, before_end, number}
+use Rattle.vme_line_map.specs.Texts.{strip, cut, cut_last, before_end, number}
 
 -- a text with which another begins
 pub strip-found : (p rest : List ℕ) → strip p (p ++ rest) ≡ Some rest

@@ -1,7 +1,7 @@
 -- The groups of lines: how many lines each has, its name, and whether a trace needs it.
 use Rattle.std.specs.Prelude.{ℕ, Bool, true, false, List, codes}
 use Rattle.vme_line_map.specs.declared.group.Group.{Group}
-use Rattle.vme_line_map.specs.declared.group.Group.TheVariants.{AddressStrobe, UpperStrobe, LowerStrobe, Acknowledge, BusError, InterruptAcknowledge, Busy, Write, LongWord, Modifier, Address, Data, SlotBusy, SlotRequest, SlotGrant, PortWrite, PortOffset, PortData, PortDone}
+use Rattle.vme_line_map.specs.declared.group.Group.TheVariants.{AddressStrobe, UpperStrobe, LowerStrobe, Acknowledge, BusError, InterruptAcknowledge, Busy, Write, LongWord, Modifier, Address, Data, SlotBusy, SlotRequest, SlotGrant, PortOffset, PortData}
 
 -- the number of lines of a group
 abbrev pub lines : Group → ℕ

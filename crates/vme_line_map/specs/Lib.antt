@@ -4,3 +4,4 @@ pub mod Rows
 pub mod Defaults
 pub mod Texts
 pub mod Patterns
+pub mod Documents

@@ -1,5 +1,5 @@
 -- A map of lines: the variables that are wanted of a dump, and how one more is added.
-use Rattle.std.specs.Prelude.{◌≡◌, ℕ, ◌+◌, nat_le, Bool, List, [], ◌∷◌, ◌++◌, length, Result, Ok, Err, if◌then◌else◌, ⊤}
+use Rattle.std.specs.Prelude.{◌≡◌, ℕ, ◌+◌, nat_le, Bool, List, ◌++◌, length, Result, Ok, Err, if◌then◌else◌, ⊤}
 use Rattle.vme_line_map.specs.declared.group.Group.{Group}
 use Rattle.vme_line_map.specs.declared.map.Place.{Place}
 use Rattle.vme_line_map.specs.declared.map.Wanted.{Wanted}

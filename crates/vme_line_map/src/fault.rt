@@ -1,4 +1,7 @@
 //! Why a text is no map of lines.
+ghost use Rattle.std.specs.Prelude.{◌≡◌};
+ghost use Rattle.vme_line_map.specs.declared.fault.LinesFault.TheVariants.{Memory};
+
 use std::alloc::{AllocError, AllocFailed};
 use thiserror::Error;
 
@@ -41,12 +44,16 @@ pub enum LinesFault {
 }
 
 impl From<AllocError> for LinesFault {
+    ghost from_gives = { λ _ fault. fault ≡ Memory };
+
     fn from(_error: AllocError) -> LinesFault {
         LinesFault::Memory
     }
 }
 
 impl<T: Drop> From<AllocFailed<T>> for LinesFault {
+    ghost from_gives = { λ _ fault. fault ≡ Memory };
+
     fn from(_error: AllocFailed<T>) -> LinesFault {
         LinesFault::Memory
     }

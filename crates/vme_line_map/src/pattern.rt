@@ -1,8 +1,8 @@
 //! The value of a key: names of variables and their bits.
-ghost use Rattle.std.specs.Prelude.{◌≡◌, ◌≤◌, ◌<◌, ◌∷◌, [], Ok, Err, MatchResult, codes};
-ghost use Rattle.vme_line_map.specs.Texts.{cut, number};
+ghost use Rattle.std.specs.Prelude.{◌≡◌, ◌≤◌, ◌<◌, ◌∷◌, [], Ok, Err, MatchResult, IfOk};
+ghost use Rattle.vme_line_map.specs.Texts.{number};
 ghost use Rattle.vme_line_map.specs.Variables.{Leaves, added};
-ghost use Rattle.vme_line_map.specs.Patterns.{and_then, pattern, of_name, one_variable, each_of, variables_between, line_variable, bits_of, bits_in as bits_said, place_of as placed_name, whole as whole_place, first_address as lowest_address};
+ghost use Rattle.vme_line_map.specs.Patterns.{and_then, pattern, of_name, one_variable, each_line, range_in, variables_between, line_variable, bits_of, bits_in as bits_said, place_of as placed_name, whole as whole_place, first_address as lowest_address};
 
 use crate::fault::LinesProblem;
 use crate::group::Group;
@@ -12,6 +12,14 @@ use std::fmt::Write;
 
 /// The greatest length of a name.
 const NAME_LIMIT: usize = 255;
+
+/// Lines that a name has: from the first of a group on, high where the variable is 0 or not.
+#[derive(Clone, Copy)]
+struct Named {
+    group: Group,
+    first: u8,
+    is_inverted: bool,
+}
 
 /// Adds the variables that a value names: a name; a name with `[N]` or `[N:M]`, some bits of it; or
 /// a name with `{FIRST..LAST}`, a variable of one bit for each of these lines. `!` before the name
@@ -29,55 +37,54 @@ pub(crate) fn add_pattern(
 ) -> Result<Result<(), LinesProblem>, AllocError>
     ensures { Leaves result map.new (and_then (pattern group first text.now) (added map.old)) }
 {
-    match text.strip_prefix("!") {
-        Some(name) => add_name(alloc, map, group, first, true, name),
-        None => add_name(alloc, map, group, first, false, text),
-    }
+    let (is_inverted, name) = match text.strip_prefix("!") {
+        Some(name) => (true, name),
+        None => (false, text),
+    };
+    let named = Named {
+        group,
+        first,
+        is_inverted,
+    };
+    add_name(alloc, map, named, name)
 }
 
 /// Adds the variables of a name without `!`.
 fn add_name(
     alloc: Global,
     map: &mut LineMap,
-    group: Group,
-    first: u8,
-    is_inverted: bool,
+    named: Named,
     name: &str,
 ) -> Result<Result<(), LinesProblem>, AllocError>
-    ensures { Leaves result map.new (and_then (of_name group first is_inverted name.now) (added map.old)) }
+    ensures { Leaves result map.new (and_then (of_name named name.now) (added map.old)) }
 {
     if name.is_empty() || NAME_LIMIT < name.len() {
         return Ok(Err(LinesProblem::BadName));
     }
     let Some((before, rest)) = name.split_once("{") else {
-        return add_one(map, group, first, is_inverted, name);
+        return add_one(map, named, name);
     };
-    let Some((range, after)) = rest.split_once("}") else {
-        return Ok(Err(LinesProblem::BadRange));
-    };
-    add_each(alloc, map, group, is_inverted, (before, range, after))
+    add_each(alloc, map, named, before, rest)
 }
 
 /// Adds one variable.
 fn add_one(
     map: &mut LineMap,
-    group: Group,
-    first: u8,
-    is_inverted: bool,
+    named: Named,
     name: &str,
 ) -> Result<Result<(), LinesProblem>, AllocError>
     ensures { Leaves result map.new
-        (and_then (and_then (placed_name group first name.now) (one_variable group is_inverted)) (added map.old)) }
+        (and_then (one_variable named name.now) (added map.old)) }
 {
-    let (name, place) = match place_of(group, first, name) {
+    let (name, place) = match place_of(named.group, named.first, name) {
         Ok(found) => found,
         Err(problem) => return Ok(Err(problem)),
     };
     map.add(&Wanted {
         name: name.as_bytes(),
-        group,
+        group: named.group,
         place,
-        is_inverted,
+        is_inverted: named.is_inverted,
     })
 }
 
@@ -85,45 +92,55 @@ fn add_one(
 fn add_each(
     alloc: Global,
     map: &mut LineMap,
-    group: Group,
-    is_inverted: bool,
-    parts: (&str, &str, &str),
+    named: Named,
+    before: &str,
+    rest: &str,
 ) -> Result<Result<(), LinesProblem>, AllocError>
-    ensures { Leaves result map.new
-        (and_then (each_of group is_inverted parts.entry.0.now (cut (codes "..") parts.entry.1.now) parts.entry.2.now) (added map.old)) }
+    ensures { Leaves result map.new (and_then (each_line named before.now rest.now) (added map.old)) }
 {
-    let (before, range, after) = parts;
-    let Some((one, other)) = range.split_once("..") else {
+    let Some((range, after)) = rest.split_once("}") else {
         return Ok(Err(LinesProblem::BadRange));
     };
-    let (Some(one), Some(other)) = (line(one), line(other)) else {
-        return Ok(Err(LinesProblem::BadRange));
+    match range_of(named.group, range) {
+        Ok(lines) => add_lines(alloc, map, named, (before, after), lines),
+        Err(problem) => Ok(Err(problem)),
+    }
+}
+
+/// The lowest and the highest line of a range.
+fn range_of(group: Group, range: &str) -> Result<(u8, u8), LinesProblem>
+    ensures range { result ≡ range_in group range.now }
+    ensures lines { IfOk result (λ lines. (lines.0 ≤ lines.1) × (lines.1 < 32)) }
+{
+    let Some((one, other)) = range.split_once("..") else {
+        return Err(LinesProblem::BadRange);
+    };
+    let (Some(one), Some(other)) = (small_number(one), small_number(other)) else {
+        return Err(LinesProblem::BadRange);
     };
     let (low, high) = (one.min(other), one.max(other));
     if group.lines() <= high {
-        return Ok(Err(LinesProblem::TooManyBits));
+        return Err(LinesProblem::TooManyBits);
     }
-    add_lines(alloc, map, group, is_inverted, (before, after), (low, high))
+    Ok((low, high))
 }
 
 /// Adds a variable of one bit for each line from one to another.
 fn add_lines(
     alloc: Global,
     map: &mut LineMap,
-    group: Group,
-    is_inverted: bool,
+    named: Named,
     name: (&str, &str),
     lines: (u8, u8),
 ) -> Result<Result<(), LinesProblem>, AllocError>
     requires order { lines.0 ≤ lines.1 }
     requires below { lines.1 < 32 }
     ensures { Leaves result map.new
-        (added map.old (variables_between (line_variable group is_inverted name.entry.0.now name.entry.1.now) lines.0 lines.1)) }
+        (added map.old (variables_between (line_variable named name.entry.0.now name.entry.1.now) lines.0 lines.1)) }
 {
-    let (before, after) = name;
     let (low, high) = lines;
     for line in low..high + 1 {
-        if let Err(problem) = add_line(alloc, map, group, is_inverted, (before, after), line)? {
+        if let Err(problem) = add_line(alloc, map, named, name, line)? {
             return Ok(Err(problem));
         }
     }
@@ -134,22 +151,21 @@ fn add_lines(
 fn add_line(
     alloc: Global,
     map: &mut LineMap,
-    group: Group,
-    is_inverted: bool,
+    named: Named,
     name: (&str, &str),
     line: u8,
 ) -> Result<Result<(), LinesProblem>, AllocError>
     ensures { Leaves result map.new
-        (added map.old (line_variable group is_inverted name.entry.0.now name.entry.1.now line ∷ [])) }
+        (added map.old (line_variable named name.entry.0.now name.entry.1.now line ∷ [])) }
 {
     let (before, after) = name;
     let mut text = String::new(alloc);
     write!(text, "{before}{line}{after}")?;
     map.add(&Wanted {
         name: text.as_bytes(),
-        group,
+        group: named.group,
         place: Place::From(line),
-        is_inverted,
+        is_inverted: named.is_inverted,
     })
 }
 
@@ -200,8 +216,8 @@ fn index(text: &str) -> Option<u16>
     text.parse().ok()
 }
 
-/// The number of a line.
-fn line(text: &str) -> Option<u8>
+/// The number below 256 that a text writes.
+pub(crate) fn small_number(text: &str) -> Option<u8>
     ensures { result ≡ number 8 text.now }
 {
     text.parse().ok()

@@ -1,8 +1,7 @@
 -- Each step cuts the text as the definition does.
-use Rattle.std.proofs.Common.{◌≡◌, codes, refl, sym, ap, ◌∙◌, arith}
-use Rattle.vme_line_map.specs.Patterns.{ends, bits_at, bits_in}
-use Rattle.vme_line_map.proofs.TextCuts.{texts, split_once-is}
-use Rattle.vme_line_map.proofs.Places.{ends-is, bits_in-ends, bits_at-one}
+use Rattle.std.proofs.Common.{codes, sym, ap, ◌∙◌, arith}
+use Rattle.vme_line_map.proofs.TextCuts.{split_once-is}
+use Rattle.vme_line_map.proofs.Places.{bits_at, ends-is, bits_in-ends, bits_at-one}
 use Rattle.vme_line_map.proofs.pattern.bits_in.Goals as goal
 
 pub returns-in_default : goal.returns-in_default

@@ -2,7 +2,6 @@
 use Rattle.std.proofs.Common.{◌≡◌, Some, None, codes, refl, ap, ◌∙◌, sym, arith}
 use Rattle.std.specs.Option.{option_map}
 use Rattle.vme_line_map.specs.Texts.{cut_last, before_end}
-use Rattle.vme_line_map.specs.Patterns.{place_of}
 use Rattle.vme_line_map.proofs.TextCuts.{texts, rsplit_once-is, strip_suffix-is}
 use Rattle.vme_line_map.proofs.pattern.place_of.Goals as goal
 

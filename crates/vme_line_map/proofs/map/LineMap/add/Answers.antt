@@ -1,10 +1,8 @@
 -- A row with the appended name is the new variable, and the variables before it stay.
-use Rattle.std.proofs.Common.{◌≡◌, ◌+◌, ◌≤◌, ◌<◌, ◌∷◌, ◌++◌, [], length, refl, sym, ap, ◌∙◌, arith, rules, length-append, Ok}
-use Rattle.std.proofs.lemmas.Grind.{common_steps}
+use Rattle.std.proofs.Common.{length, ap, arith, rules}
 use Rattle.std.proofs.lemmas.Bool.Decides.{nat_tests}
-use Rattle.std.proofs.lemmas.List.{map-append, length-map}
-use Rattle.vme_line_map.specs.Variables.{shown, added, most_wanted}
-use Rattle.vme_line_map.specs.Rows.{variable_of, variables_of, IsStored}
+use Rattle.std.proofs.lemmas.List.{length-map}
+use Rattle.vme_line_map.specs.Rows.{variable_of}
 use Rattle.vme_line_map.proofs.StoredRows.{IsStored-more, IsStored-push, variables_of-more, variables_of-push}
 use Rattle.vme_line_map.proofs.map.LineMap.add.Goals as goal
 

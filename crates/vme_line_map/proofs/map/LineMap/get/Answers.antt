@@ -1,10 +1,8 @@
 -- The row at the index has its name among the names, so the second look-up finds it.
-use Rattle.std.proofs.Common.{◌≡◌, ◌≤◌, ◌<◌, Some, length, sym, ap, ◌∙◌, arith, rules}
+use Rattle.std.proofs.Common.{◌≡◌, Some, arith}
 use Rattle.std.specs.List.{slice_get}
-use Rattle.std.specs.Option.{option_map}
-use Rattle.std.proofs.lemmas.Option.{slice_get_read, slice_get-map, gets}
+use Rattle.std.proofs.lemmas.Option.{slice_get-map, gets}
 use Rattle.std.proofs.lemmas.Grind.{common_steps}
-use Rattle.vme_line_map.specs.Variables.{shown}
 use Rattle.vme_line_map.specs.Rows.{variable_of}
 use Rattle.vme_line_map.proofs.StoredRows.{row_within}
 use Rattle.vme_line_map.proofs.map.LineMap.get.Goals as goal
