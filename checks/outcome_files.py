@@ -52,23 +52,23 @@ def orders(counts):
 
 # Files with the numbers of their outcomes and states, and, if it is the same for each outcome, of its turns.
 FILES = {
-    "buffering": (BUFFERING, 3, 12, 8),
+    "buffering": (BUFFERING, 3, 6, 8),
     "rotating": (ROTATING, 3, None, None),
     "waiting": (WAITING, 3, None, None),
-    "torn": (TORN, 4, 15, None),
-    "lost": (LOST, 3, 9, None),
+    "torn": (TORN, 4, 10, None),
+    "lost": (LOST, 3, 5, None),
     "idle": (IDLE, 1, 1, 0),
     # Attempts that fail are not counted: the same states with 2 tries and with 300. With as many lines as tries they are.
-    "a lock, 2 tries": (locks(2), 6, 35, None),
-    "a lock, 300 tries": (locks(300), 6, 35, None),
-    "a lock, 1000000 tries": (MILLION, 6, 35, None),
-    "a mailbox, 1 try": (mailbox(1), 4, 33, None),
-    "a mailbox, 3 tries": (mailbox(3), 4, 34, None),
-    "a mailbox, 300 tries": (mailbox(300), 4, 34, None),
-    "a mailbox, 1000000 tries": (mailbox(1_000_000), 4, 34, None),
-    "four counters to 6": (counters(4, 6), 1, 25, 24),
-    "three counters to 3": (counters(3, 3), 1, 10, 9),
-    "a counter to 255": (counters(1, 255), 1, 256, 255),
+    "a lock, 2 tries": (locks(2), 6, 17, None),
+    "a lock, 300 tries": (locks(300), 6, 17, None),
+    "a lock, 1000000 tries": (MILLION, 6, 17, None),
+    "a mailbox, 1 try": (mailbox(1), 4, 13, None),
+    "a mailbox, 3 tries": (mailbox(3), 4, 14, None),
+    "a mailbox, 300 tries": (mailbox(300), 4, 14, None),
+    "a mailbox, 1000000 tries": (mailbox(1_000_000), 4, 14, None),
+    "four counters to 6": (counters(4, 6), 1, 4, 24),
+    "three counters to 3": (counters(3, 3), 1, 3, 9),
+    "a counter to 255": (counters(1, 255), 1, 33, 255),
     "adders 2 2 2": (adders((2, 2, 2)), orders((2, 2, 2)), None, None),
     "adders 3 2 2": (adders((3, 2, 2)), orders((3, 2, 2)), None, None),
     "adders 6 4": (adders((6, 4)), orders((6, 4)), None, None),
@@ -100,7 +100,7 @@ mem 2 00000000 01000000000000000000000000000000
 
 never 1:2 read 00; 2:2 read 00: holds
 always 2:2 read 01: fails, schedule = [[2, 4], [1, 4]]
-3 outcomes, 12 states
+3 outcomes, 6 states
 """
 NEVER, ALWAYS = "--never", "--always"
 BOTH = [NEVER, "1:2 read 00; 2:2 read 00", ALWAYS, " 2:2 read 01 "]
