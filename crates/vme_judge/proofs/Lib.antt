@@ -1,3 +1,4 @@
+mod Appends
 pub mod Samples
 pub mod Logs
 pub mod Runs

@@ -12,7 +12,7 @@ use Rattle.vme_judge.specs.declared.log.Taken.{Taken}
 use Rattle.vme_judge.specs.declared.log.Taken.TheVariants as takens
 use Rattle.vme_judge.specs.declared.run.Run.{Run}
 use Rattle.vme_judge.specs.Standing.{Standing, standing}
-use Rattle.vme_judge.specs.Logs.{LogSoFar, Legal, Illegal, Broken, is_broken, so_far, shown_by, access_taken, local_of, line_taken, next_taken, log_taken}
+use Rattle.vme_judge.specs.Logs.{LogSoFar, Illegal, Broken, is_broken, so_far, shown_by, access_taken, local_of, line_taken, next_taken, log_taken}
 use Rattle.vme_judge.specs.Runs.{run_so_far, log_whole, IsJudgedAs, IsOver, Judges, StaysFound, TakesLine, JudgesLine}
 
 -- an illegal log stays illegal

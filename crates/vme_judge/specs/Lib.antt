@@ -8,3 +8,6 @@ pub mod Verdicts
 pub mod Runs
 pub mod Dumps
 pub mod DumpRuns
+pub mod Expected
+pub mod Levels
+pub mod Messages

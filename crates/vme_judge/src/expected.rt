@@ -1,8 +1,13 @@
 //! What each rule expects.
+ghost use Rattle.std.specs.Prelude.{◌≡◌};
+ghost use Rattle.vme_judge.specs.Expected.{expected};
+
 use vme_protocol::Rule;
 
 /// Returns what is expected where a rule is broken.
-pub(crate) fn expected(rule: Rule) -> &'static str {
+pub(crate) fn expected(rule: Rule) -> &'static str
+    ensures { result.now ≡ expected rule }
+{
     match rule {
         Rule::Undefined => "0 or 1, where the level counts",
         Rule::CodeUnknown => "a code of the address modifier table",

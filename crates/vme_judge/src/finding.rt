@@ -1,4 +1,7 @@
 //! The sample at which a trace is illegal.
+ghost use Rattle.std.specs.Prelude.{◌≡◌};
+ghost use Rattle.vme_judge.specs.Messages.{broken_rule};
+
 use crate::transfer::OpenTransfer;
 use vme_answers::Wrong;
 use vme_protocol::{Datum, Local, Rule, Sample};
@@ -37,7 +40,9 @@ pub(crate) struct Finding {
 
 impl Finding {
     /// Returns the rule that is broken.
-    pub(crate) fn rule(&self) -> Rule {
+    pub(crate) fn rule(&self) -> Rule
+        ensures { result ≡ broken_rule self.now.broken }
+    {
         match self.broken {
             Broken::Order(rule) | Broken::Port(rule, _) => rule,
             Broken::Answer(wrong, _, _) => wrong.rule,

@@ -1,8 +1,9 @@
 //! The text of a verdict.
-ghost use Rattle.std.specs.Prelude.{◌≡◌, IfOk};
+ghost use Rattle.std.specs.Prelude.{◌≡◌, ◌++◌, false, string_bytes, IfOk, OnOk};
 ghost use Rattle.vme_judge.specs.DumpRuns.{dump_so_far};
 ghost use Rattle.vme_judge.specs.Dumps.{dump_status};
 ghost use Rattle.vme_judge.specs.Logs.{status_of};
+ghost use Rattle.vme_judge.specs.Messages.{message};
 ghost use Rattle.vme_judge.specs.Runs.{run_so_far};
 
 use crate::dump::slots_of;
@@ -118,7 +119,10 @@ fn write_one(
     options: &Options<'_>,
     finding: &Finding,
     to: &mut String,
-) -> Result<(), AllocError> {
+) -> Result<(), AllocError>
+    ensures message { OnOk result (options.now.json ≡ false →
+        string_bytes to.new ≡ string_bytes to.old ++ message options.now.name.now finding.now) }
+{
     if options.json {
         write_finding(alloc, options.name, finding, to)
     } else {
