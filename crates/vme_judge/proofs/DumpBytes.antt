@@ -1,65 +1,71 @@
 -- Bytes of a dump, judged up to those that are left.
-use Rattle.std.proofs.Common.{◌≡◌, ℕ, ◌+◌, ◌<◌, ◌≤◌, Bool, true, false, List, [], ◌∷◌, ◌++◌, append_assoc, append-nil, length, length-append, arith, subst, Option, Some, None, Result, Ok, Err, IfOk, refl, ap, sym, ◌∙◌}
+use Rattle.std.proofs.Common.{◌≡◌, ℕ, ◌+◌, ◌<◌, ◌≤◌, Bool, true, false, List, [], ◌∷◌, ◌++◌, append_assoc, append-nil, drop, slice_index, length, length-append, arith, subst, Option, Some, None, is_some, Result, Ok, Err, IfOk, refl, ap, sym, ◌∙◌}
 use Rattle.std.specs.Option.{option_and_then, option_map}
 use Rattle.std.specs.declared.alloc.AllocError.{AllocError}
 use Rattle.std.proofs.lemmas.Bool.{false≢true}
+use Rattle.vme_line_map.specs.Variables.{Map}
 use Rattle.vme_vcd_reader.specs.declared.reader.Step.{Step}
 use Rattle.vme_vcd_reader.specs.declared.reader.VcdReader.{VcdReader}
 use Rattle.vme_vcd_reader.specs.declared.table.Row.{Row}
 use Rattle.vme_vcd_reader.specs.Bodies.{Reading, Shown, before, byte_taken, samples_by, samples_of}
 use Rattle.vme_vcd_reader.specs.Lines.{bytes_taken, list_of, shown_first}
-use Rattle.vme_vcd_reader.specs.Readers.{IsReading, ReportsSample, TakesLine, rows_of}
+use Rattle.vme_vcd_reader.specs.Readers.{IsBrokenText, IsReading, ReportsSample, TakesLine, rows_of}
 use Rattle.vme_judge.specs.declared.run.Run.{Run}
-use Rattle.vme_judge.specs.DumpRuns.{IsDumpJudgedAs, JudgesBody, ReadsOn, TakesDump, TakesNext, dump_so_far, dump_whole}
+use Rattle.vme_judge.specs.DumpRuns.{HasReached, InBody, InHeader, IsDumpJudgedAs, IsUnjudged, JudgesDump, Reached, ReadsOn, TakesDump, TakesNext, dump_so_far, text_whole}
+use Rattle.vme_judge.specs.Dumps.{DumpSoFar}
 use Rattle.vme_judge.specs.Runs.{IsGoing, IsOnceRun, StaysFound}
 use Rattle.vme_judge.specs.Standing.{standing}
-use Rattle.vme_judge.proofs.DumpRuns.{all_before, bytes_judged, first_before, first_reading, one_before, samples_first}
+use Rattle.vme_judge.proofs.DumpRuns.{all_before, bytes_judged, bytes_rejected, first_before, first_reading, one_before, samples_first}
 
--- a run has judged bytes of a body up to those that are left
-pub record ReadsTo (old new : Run) (r : Reading) (bytes left : List ℕ) : Type 0 where
-  pub after : Reading
-  pub reading : IsReading after new.vcd
-  pub judges : (rest : List ℕ) → dump_whole old r (bytes ++ rest) ≡ dump_whole new after (left ++ rest)
+-- a run has judged bytes of a dump up to those that are left
+pub record ReadsTo (map : Map) (old new : Run) (reached : Reached) (bytes left : List ℕ) : Type 0 where
+  pub after : Reached
+  pub reading : HasReached map after new.vcd
+  pub unjudged : (d : DumpSoFar) → IsUnjudged d reached old → IsUnjudged d after new
+  pub judges : (rest : List ℕ) → text_whole map old reached (bytes ++ rest) ≡ text_whole map new after (left ++ rest)
 
 -- a run before the first of some bytes
-pub reads_none : (run : Run) (r : Reading) (bytes : List ℕ) → IsReading r run.vcd → ReadsTo run run r bytes bytes
-reads_none run r bytes is = record {
-  after = r;
+pub reads_none : (map : Map) (run : Run) (reached : Reached) (bytes : List ℕ) → HasReached map reached run.vcd → ReadsTo map run run reached bytes bytes
+reads_none map run reached bytes is = record {
+  after = reached;
   reading = is;
+  unjudged = λ d was. was;
   judges = λ rest. refl;
 }
 
 -- a run that reads on with some of the bytes that are left
-pub reads_more : (old mid new : Run) (r : Reading) (bytes left line rest : List ℕ) (to : ReadsTo old mid r bytes left) → left ≡ line ++ rest
-    → ReadsOn mid new to.after line → ReadsTo old new r bytes rest
-reads_more old mid new r bytes left line rest to is on = record {
+pub reads_more : (map : Map) (old mid new : Run) (reached : Reached) (bytes left line rest : List ℕ) (to : ReadsTo map old mid reached bytes left) → left ≡ line ++ rest
+    → ReadsOn map mid new to.after line → ReadsTo map old new reached bytes rest
+reads_more map old mid new reached bytes left line rest to is on = record {
   after = on.after;
   reading = on.reading;
+  unjudged = λ d was. on.unjudged d (to.unjudged d was);
   judges = λ more.
       to.judges more
-      ∙ ap (λ left. dump_whole mid to.after (left ++ more)) is
-      ∙ ap (dump_whole mid to.after) (append_assoc line rest more)
+      ∙ ap (λ left. text_whole map mid to.after (left ++ more)) is
+      ∙ ap (text_whole map mid to.after) (append_assoc line rest more)
       ∙ on.judges (rest ++ more);
 }
 
 -- a run that stops at some of the bytes that are left
-pub stops_at : (old mid new : Run) (r : Reading) (bytes left line rest : List ℕ) (to : ReadsTo old mid r bytes left) → left ≡ line ++ rest
-    → ((more : List ℕ) → JudgesBody mid new to.after (line ++ more)) → (more : List ℕ) → JudgesBody old new r (bytes ++ more)
-stops_at old mid new r bytes left line rest to is stops more =
+pub stops_at : (map : Map) (old mid new : Run) (reached : Reached) (bytes left line rest : List ℕ) (to : ReadsTo map old mid reached bytes left) → left ≡ line ++ rest
+    → ((more : List ℕ) → JudgesDump map mid new to.after (line ++ more)) → (more : List ℕ) → JudgesDump map old new reached (bytes ++ more)
+stops_at map old mid new reached bytes left line rest to is stops more =
     subst (λ d. IsDumpJudgedAs d (dump_so_far new) (standing new.judge))
     (sym (
     to.judges more
-    ∙ ap (λ left. dump_whole mid to.after (left ++ more)) is
-    ∙ ap (dump_whole mid to.after) (append_assoc line rest more)
+    ∙ ap (λ left. text_whole map mid to.after (left ++ more)) is
+    ∙ ap (text_whole map mid to.after) (append_assoc line rest more)
     ))
     (stops (rest ++ more))
 
 -- bytes that are all taken
-pub reads_all : (old new : Run) (r : Reading) (bytes left : List ℕ) → ReadsTo old new r bytes left → left ≡ [] → ReadsOn old new r bytes
-reads_all old new r bytes left to none = record {
+pub reads_all : (map : Map) (old new : Run) (reached : Reached) (bytes left : List ℕ) → ReadsTo map old new reached bytes left → left ≡ [] → ReadsOn map old new reached bytes
+reads_all map old new reached bytes left to none = record {
   after = to.after;
   reading = to.reading;
-  judges = λ rest. to.judges rest ∙ ap (λ left. dump_whole new to.after (left ++ rest)) none;
+  unjudged = to.unjudged;
+  judges = λ rest. to.judges rest ∙ ap (λ left. text_whole map new to.after (left ++ rest)) none;
 }
 
 -- samples of a text after a byte, by what the bytes after it say
@@ -99,35 +105,90 @@ bytes_samples rows (b ∷ bs) rest r after list is =
     samples_next rows bs rest after list (byte_taken rows r b) (λ r next list. bytes_samples rows bs rest r next list) is
 
 -- a run that takes a line of a body
-pub line_judged : (old new : Run) (v : VcdReader) (r : Reading) (text rest : List ℕ) (step : Step) (goes_on : Bool)
+pub line_judged : (map : Map) (old new : Run) (v : VcdReader) (r : Reading) (text rest : List ℕ) (step : Step) (goes_on : Bool)
     (line : TakesLine (rows_of old.vcd) r text rest step v) → rows_of v ≡ rows_of old.vcd
     → ((shown : Option Shown) → ReportsSample shown step v → TakesNext (record old { vcd = v }) new shown goes_on)
-    → TakesDump old new r line.line goes_on
-line_judged old new v r text rest step goes_on line rows takes =
-    bytes_judged old new v r line.after line.line line.shown goes_on
+    → TakesDump map old new (InBody r) line.line goes_on
+line_judged map old new v r text rest step goes_on line rows takes =
+    bytes_judged map old new v r line.after line.line line.shown goes_on
     (λ more. bytes_samples (rows_of old.vcd) line.line more r line.after (list_of line.shown) line.taken
     ∙ one_before line.shown (samples_of (rows_of old.vcd) line.after more))
     line.reading rows (takes line.shown line.reports)
 
-module _ (first mid new : Run) (r : Reading) (bytes left line rest : List ℕ) (goes_on : Bool) (to : ReadsTo first mid r bytes left) where
+-- a run has taken a line at the start of a text
+pub record TakesOver (map : Map) (old new : Run) (reached : Reached) (text rest : List ℕ) (goes_on : Bool) : Type 0 where
+  pub line : List ℕ
+  pub text_is : text ≡ line ++ rest
+  pub some : 0 < length line
+  pub takes : TakesDump map old new reached line goes_on
+
+-- the first byte of a text, before the others
+pub first_byte : (text : List ℕ) → 1 ≤ length text → text ≡ (slice_index text 0 ∷ []) ++ drop 1 text
+first_byte [] some = absurd (grind arith)
+first_byte (b ∷ bs) some = refl
+
+-- a run whose reader stays
+pub same_reader : (map : Map) (old new : Run) (v : VcdReader) (reached : Reached) (bytes : List ℕ) (goes_on : Bool) → v ≡ old.vcd
+    → TakesDump map (record old { vcd = v }) new reached bytes goes_on → TakesDump map old new reached bytes goes_on
+same_reader map old new v reached bytes goes_on same takes =
+    subst (λ v. TakesDump map (record old { vcd = v }) new reached bytes goes_on) same takes
+
+-- a result that is none is no value
+pub no_line : {A B : Type 0} → (result : Result (Option A) B) (a : A) → result ≡ Ok None → result ≡ Ok (Some a) → ⊥
+no_line (Err fault) a none some = absurd (cc none)
+no_line (Ok None) a none some = absurd (cc some)
+no_line (Ok (Some b)) a none some = absurd (cc none)
+
+-- nor an error
+pub no_error : {A B : Type 0} → (result : Result (Option A) B) (b : B) → result ≡ Ok None → result ≡ Err b → ⊥
+no_error (Err fault) b none fails = absurd (cc none)
+no_error (Ok taken) b none fails = absurd (cc fails)
+
+-- a run that takes a line of a dump, which has a body then
+pub line_reached : (map : Map) (old new : Run) (v : VcdReader) (reached : Reached) (text rest : List ℕ) (step : Step) (goes_on : Bool)
+    → HasReached map reached old.vcd → (old.vcd.is_body ≡ false → ⊥)
+    → ((r : Reading) → IsReading r old.vcd → TakesLine (rows_of old.vcd) r text rest step v) → rows_of v ≡ rows_of old.vcd
+    → ((shown : Option Shown) → ReportsSample shown step v → TakesNext (record old { vcd = v }) new shown goes_on)
+    → TakesOver map old new reached text rest goes_on
+line_reached map old new v (InHeader h ds) text rest step goes_on is body says rows takes = absurd (body is.before.entered)
+line_reached map old new v (InBody r) text rest step goes_on is body says rows takes =
+    let line = says r is in
+    record {
+      line = line.line;
+      text_is = line.text_is;
+      some = line.some;
+      takes = line_judged map old new v r text rest step goes_on line rows takes;
+    }
+
+-- a run that rejects the text that is left, which has a body then
+pub text_rejected : (map : Map) (old new : Run) (reached : Reached) (text : List ℕ) (result : Result Bool AllocError)
+    → HasReached map reached old.vcd → (old.vcd.is_body ≡ false → ⊥)
+    → ((r : Reading) → IsReading r old.vcd → IsBrokenText (rows_of old.vcd) r text) → IfOk result (λ goes_on. goes_on ≡ false)
+    → IfOk result (λ _. is_some new.rejection ≡ true) → IfOk result (λ _. new.judge ≡ old.judge)
+    → IfOk result (TakesDump map old new reached text)
+text_rejected map old new (InHeader h ds) text result is body broken stops rejected judge = absurd (body is.before.entered)
+text_rejected map old new (InBody r) text result is body broken stops rejected judge =
+    bytes_rejected map old new r text result (broken r is) stops rejected judge
+
+module _ (map : Map) (first mid new : Run) (reached : Reached) (bytes left line rest : List ℕ) (goes_on : Bool) (to : ReadsTo map first mid reached bytes left) where
   -- a run that stops at some of the bytes that are left
   pub dump_stops : StaysFound first mid → (IsOnceRun first → IsGoing first → IsOnceRun mid × IsGoing mid) → left ≡ line ++ rest
-      → TakesDump mid new to.after line goes_on → goes_on ≡ false → TakesDump first new r bytes false
+      → TakesDump map mid new to.after line goes_on → goes_on ≡ false → TakesDump map first new reached bytes false
   dump_stops stays once is takes off = record {
     reads = λ on. absurd (false≢true on);
-    stops = λ same. stops_at first mid new r bytes left line rest to is (takes.stops off);
+    stops = λ same. stops_at map first mid new reached bytes left line rest to is (takes.stops off);
     stays = λ none. takes.stays (stays none);
     once = λ one going. let had = once one going in ((takes.once had.0 had.1).0, λ on. absurd (false≢true on));
   }
 
 -- a run that rejects the bytes that are left
-pub dump_refused : (first mid new : Run) (r : Reading) (bytes left : List ℕ) (result : Result Bool AllocError) (to : ReadsTo first mid r bytes left)
-    → StaysFound first mid → (IsOnceRun first → IsGoing first → IsOnceRun mid × IsGoing mid) → IfOk result (TakesDump mid new to.after left)
-    → IfOk result (λ goes_on. goes_on ≡ false) → IfOk result (TakesDump first new r bytes)
-dump_refused first mid new r bytes left (Err fault) to stays once takes off = tt
-dump_refused first mid new r bytes left (Ok true) to stays once takes off = absurd (cc off)
-dump_refused first mid new r bytes left (Ok false) to stays once takes off =
-    dump_stops first mid new r bytes left left [] false to stays once (sym (append-nil left)) takes refl
+pub dump_refused : (map : Map) (first mid new : Run) (reached : Reached) (bytes left : List ℕ) (result : Result Bool AllocError) (to : ReadsTo map first mid reached bytes left)
+    → StaysFound first mid → (IsOnceRun first → IsGoing first → IsOnceRun mid × IsGoing mid) → IfOk result (TakesDump map mid new to.after left)
+    → IfOk result (λ goes_on. goes_on ≡ false) → IfOk result (TakesDump map first new reached bytes)
+dump_refused map first mid new reached bytes left (Err fault) to stays once takes off = tt
+dump_refused map first mid new reached bytes left (Ok true) to stays once takes off = absurd (cc off)
+dump_refused map first mid new reached bytes left (Ok false) to stays once takes off =
+    dump_stops map first mid new reached bytes left left [] false to stays once (sym (append-nil left)) takes refl
 
 -- a line is one byte at least
 line_left : (text line rest : List ℕ) (step all : ℕ) → text ≡ line ++ rest → 0 < length line → length text + step ≤ all
@@ -135,19 +196,19 @@ line_left : (text line rest : List ℕ) (step all : ℕ) → text ≡ line ++ re
 line_left text line rest step all is some left = omega (arith, length-append line rest, ap length is)
 
 -- a run that goes on after a line of the bytes that are left
-pub record GoesOver (first new : Run) (r : Reading) (bytes rest : List ℕ) (step : ℕ) : Type 0 where
-  pub reads : ReadsTo first new r bytes rest
+pub record GoesOver (map : Map) (first new : Run) (reached : Reached) (bytes rest : List ℕ) (step : ℕ) : Type 0 where
+  pub reads : ReadsTo map first new reached bytes rest
   pub stays : StaysFound first new
   pub once : IsOnceRun first → IsGoing first → IsOnceRun new × IsGoing new
   pub left : length rest + step ≤ length bytes
 
-module _ (first mid new : Run) (r : Reading) (bytes text line rest : List ℕ) (step : ℕ) (goes_on : Bool) (to : ReadsTo first mid r bytes text) where
+module _ (map : Map) (first mid new : Run) (reached : Reached) (bytes text line rest : List ℕ) (step : ℕ) (goes_on : Bool) (to : ReadsTo map first mid reached bytes text) where
   -- the same, from what was judged before the line
   pub line_over : StaysFound first mid → (IsOnceRun first → IsGoing first → IsOnceRun mid × IsGoing mid) → length text + step ≤ length bytes
-      → text ≡ line ++ rest → 0 < length line → TakesDump mid new to.after line goes_on → goes_on ≡ true
-      → GoesOver first new r bytes rest (step + 1)
+      → text ≡ line ++ rest → 0 < length line → TakesDump map mid new to.after line goes_on → goes_on ≡ true
+      → GoesOver map first new reached bytes rest (step + 1)
   line_over stays once left is some takes on = record {
-    reads = reads_more first mid new r bytes text line rest to is (takes.reads on);
+    reads = reads_more map first mid new reached bytes text line rest to is (takes.reads on);
     stays = λ none. takes.stays (stays none);
     once = λ one going.
         let had = once one going in

@@ -2,6 +2,7 @@
 use Rattle.std.proofs.Common.{◌≡◌, ℕ, Bool, true, false, inl, inr, List, [], ◌∷◌, ◌++◌, replicate, subst, Option, Some, None, IsSome, is_some, Result, Ok, Err, IfOk, Bor, refl, ap, sym, ◌∙◌}
 use Rattle.std.specs.declared.alloc.AllocError.{AllocError}
 use Rattle.std.proofs.lemmas.Bool.{false≢true}
+use Rattle.vme_line_map.specs.Variables.{Map}
 use Rattle.vme_protocol.specs.declared.port.Port.{Port}
 use Rattle.vme_vcd_reader.specs.declared.reader.Step.{Step}
 use Rattle.vme_vcd_reader.specs.declared.reader.Step.TheVariants as steps
@@ -15,7 +16,7 @@ use Rattle.vme_judge.specs.declared.dump.Ports.{Ports}
 use Rattle.vme_judge.specs.declared.judge.Judge.{Judge}
 use Rattle.vme_judge.specs.declared.options.Options.{Options}
 use Rattle.vme_judge.specs.declared.run.Run.{Run}
-use Rattle.vme_judge.specs.DumpRuns.{EndsDump, EndsOnce, IsDumpJudgedAs, JudgesBody, TakesDump, TakesLast, TakesNext, TakesShown, dump_at, dump_so_far, dump_whole, next_if, shown_by}
+use Rattle.vme_judge.specs.DumpRuns.{EndsDump, EndsOnce, IsDumpJudgedAs, JudgesDump, Reached, InBody, TakesDump, TakesLast, TakesNext, TakesShown, dump_at, dump_so_far, dump_whole, next_if, shown_by}
 use Rattle.vme_judge.specs.Dumps.{DumpSoFar, Legal, Illegal, Broken, dump_by, dump_taken, next_shown}
 use Rattle.vme_judge.specs.Standing.{Standing, standing, IsOnce}
 
@@ -164,15 +165,16 @@ whole_judged old new v r after bytes shown goes_on rest says rows takes =
     (rows_of old.vcd) (rows_of new.vcd) after rest (ap (λ (o : Bor Options). o.now) takes.options) takes.dump
     (ap rows_of takes.reader ∙ rows)
 
-module _ (old new : Run) (v : VcdReader) (r after : Reading) (bytes : List ℕ) (shown : Option Shown) where
+module _ (map : Map) (old new : Run) (v : VcdReader) (r after : Reading) (bytes : List ℕ) (shown : Option Shown) where
   -- a run that takes the sample which bytes complete
   pub bytes_judged : (goes_on : Bool) → ((rest : List ℕ) → samples_of (rows_of old.vcd) r (bytes ++ rest)
       ≡ before shown (samples_of (rows_of old.vcd) after rest)) → IsReading after v → rows_of v ≡ rows_of old.vcd
-      → TakesNext (record old { vcd = v }) new shown goes_on → TakesDump old new r bytes goes_on
+      → TakesNext (record old { vcd = v }) new shown goes_on → TakesDump map old new (InBody r) bytes goes_on
   bytes_judged goes_on says reading rows takes = record {
     reads = λ on. record {
-      after = after;
+      after = InBody after;
       reading = subst (IsReading after) (sym takes.reader) reading;
+      unjudged = λ d was. tt;
       judges = λ rest. whole_judged old new v r after bytes shown goes_on rest (says rest) rows takes;
     };
     stops = λ off rest.
@@ -184,23 +186,23 @@ module _ (old new : Run) (v : VcdReader) (r after : Reading) (bytes : List ℕ) 
   }
 
 -- a run that takes the byte of a body, by what it says
-byte_by : (old new : Run) (v : VcdReader) (r : Reading) (byte : ℕ) (step : Step) (o : Option (Reading × Option Shown))
+byte_by : (map : Map) (old new : Run) (v : VcdReader) (r : Reading) (byte : ℕ) (step : Step) (o : Option (Reading × Option Shown))
     (result : Result Bool AllocError) → byte_taken (rows_of old.vcd) r byte ≡ o → TakesRead o step v → rows_of v ≡ rows_of old.vcd
     → ((shown : Option Shown) → ReportsSample shown step v → IfOk result (TakesNext (record old { vcd = v }) new shown))
-    → IfOk result (TakesDump old new r (byte ∷ []))
-byte_by old new v r byte step o (Err fault) is reads rows takes = tt
-byte_by old new v r byte step None (Ok goes_on) is reads rows takes = absurd reads
-byte_by old new v r byte step (Some taken) (Ok goes_on) is reads rows takes =
-    bytes_judged old new v r taken.0 (byte ∷ []) taken.1 goes_on
+    → IfOk result (TakesDump map old new (InBody r) (byte ∷ []))
+byte_by map old new v r byte step o (Err fault) is reads rows takes = tt
+byte_by map old new v r byte step None (Ok goes_on) is reads rows takes = absurd reads
+byte_by map old new v r byte step (Some taken) (Ok goes_on) is reads rows takes =
+    bytes_judged map old new v r taken.0 (byte ∷ []) taken.1 goes_on
     (λ rest. ap (λ o. samples_by (rows_of old.vcd) o rest) is ∙ samples_first (rows_of old.vcd) taken rest) reads.0 rows (takes taken.1 reads.1)
 
 -- a run that takes the byte of a body
-pub byte_judged : (old new : Run) (v : VcdReader) (r : Reading) (byte : ℕ) (step : Step) (result : Result Bool AllocError)
+pub byte_judged : (map : Map) (old new : Run) (v : VcdReader) (r : Reading) (byte : ℕ) (step : Step) (result : Result Bool AllocError)
     → TakesRead (byte_taken (rows_of old.vcd) r byte) step v → rows_of v ≡ rows_of old.vcd
     → ((shown : Option Shown) → ReportsSample shown step v → IfOk result (TakesNext (record old { vcd = v }) new shown))
-    → IfOk result (TakesDump old new r (byte ∷ []))
-byte_judged old new v r byte step result reads rows takes =
-    byte_by old new v r byte step (byte_taken (rows_of old.vcd) r byte) result refl reads rows takes
+    → IfOk result (TakesDump map old new (InBody r) (byte ∷ []))
+byte_judged map old new v r byte step result reads rows takes =
+    byte_by map old new v r byte step (byte_taken (rows_of old.vcd) r byte) result refl reads rows takes
 
 -- a dump whose text is none of a body, by what was judged of it before
 broken_at : (o : Options) (rejected : Bool) (m n : Option Standing) (ports : List (Option Port)) (samples : Samples) → samples ≡ BrokenBody
@@ -210,34 +212,41 @@ broken_at o false None n ports samples is same = inr (ap (dump_taken o Illegal) 
 broken_at o false (Some m) n ports samples is same = inl (sym (ap (dump_taken o (Legal m ports)) is))
 
 -- a run that has rejected a dump
-rejected_is : (run : Run) → is_some run.rejection ≡ true → dump_so_far run ≡ Broken
+pub rejected_is : (run : Run) → is_some run.rejection ≡ true → dump_so_far run ≡ Broken
 rejected_is run is = ap (λ rejected. dump_at rejected (standing run.judge) run.ports.last) is
 
 -- a run that rejects a body
 pub body_rejected : (old new : Run) (r : Reading) (text : List ℕ) → samples_of (rows_of old.vcd) r text ≡ BrokenBody
-    → is_some new.rejection ≡ true → new.judge ≡ old.judge → JudgesBody old new r text
+    → is_some new.rejection ≡ true → new.judge ≡ old.judge → IsDumpJudgedAs (dump_whole old r text) (dump_so_far new) (standing new.judge)
 body_rejected old new r text broken rejected judge =
     subst (λ d. IsDumpJudgedAs (dump_whole old r text) d (standing new.judge)) (sym (rejected_is new rejected))
     (broken_at old.judge.options.now (is_some old.rejection) (standing old.judge) (standing new.judge) old.ports.last
     (samples_of (rows_of old.vcd) r text) broken (ap standing judge))
 
 -- a run for one finding that has found nothing, and rejects a dump
-rejects_once : (old new : Run) → new.judge ≡ old.judge → EndsOnce old new
+pub rejects_once : (old new : Run) → new.judge ≡ old.judge → EndsOnce old new
 rejects_once old new judge once going =
     (subst IsOnce (sym judge) once.0, λ none. absurd (not_none (standing old.judge) going.0 (sym (ap standing judge) ∙ none)))
 
--- a run that rejects bytes of a body, whatever follows
-pub bytes_rejected : (old new : Run) (r : Reading) (bytes : List ℕ) (result : Result Bool AllocError)
-    → ((rest : List ℕ) → samples_of (rows_of old.vcd) r (bytes ++ rest) ≡ BrokenBody) → IfOk result (λ goes_on. goes_on ≡ false)
-    → IfOk result (λ _. is_some new.rejection ≡ true) → IfOk result (λ _. new.judge ≡ old.judge)
-    → IfOk result (TakesDump old new r bytes)
-bytes_rejected old new r bytes (Err fault) broken stops rejected judge = tt
-bytes_rejected old new r bytes (Ok goes_on) broken stops rejected judge = record {
+-- a run that rejects bytes of a dump, whatever follows
+pub dump_rejected : (map : Map) (old new : Run) (reached : Reached) (bytes : List ℕ) (goes_on : Bool)
+    → ((rest : List ℕ) → JudgesDump map old new reached (bytes ++ rest)) → goes_on ≡ false → new.judge ≡ old.judge
+    → TakesDump map old new reached bytes goes_on
+dump_rejected map old new reached bytes goes_on judges stops judge = record {
   reads = λ on. absurd (false≢true (sym stops ∙ on));
-  stops = λ off rest. body_rejected old new r (bytes ++ rest) (broken rest) rejected judge;
+  stops = λ off. judges;
   stays = λ none. ap standing judge ∙ none;
   once = λ once going. (rejects_once old new judge once going, λ on. absurd (false≢true (sym stops ∙ on)));
 }
+
+-- a run that rejects bytes of a body, whatever follows
+pub bytes_rejected : (map : Map) (old new : Run) (r : Reading) (bytes : List ℕ) (result : Result Bool AllocError)
+    → ((rest : List ℕ) → samples_of (rows_of old.vcd) r (bytes ++ rest) ≡ BrokenBody) → IfOk result (λ goes_on. goes_on ≡ false)
+    → IfOk result (λ _. is_some new.rejection ≡ true) → IfOk result (λ _. new.judge ≡ old.judge)
+    → IfOk result (TakesDump map old new (InBody r) bytes)
+bytes_rejected map old new r bytes (Err fault) broken stops rejected judge = tt
+bytes_rejected map old new r bytes (Ok goes_on) broken stops rejected judge =
+    dump_rejected map old new (InBody r) bytes goes_on (λ rest. body_rejected old new r (bytes ++ rest) (broken rest) rejected judge) stops judge
 
 -- the last of the samples that are left at the end of a text is none
 last_left : (v : VcdReader) (begun : Bool) (s : Shown) (samples : Samples) → v.is_begun ≡ begun → samples_left v ≡ Sample s samples → samples ≡ End

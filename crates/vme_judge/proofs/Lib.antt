@@ -8,3 +8,6 @@ pub mod Dumps
 pub mod DumpSamples
 pub mod DumpRuns
 pub mod DumpBytes
+pub mod DumpHeaders
+pub mod DumpPieces
+pub mod DumpEnds

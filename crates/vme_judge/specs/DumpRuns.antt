@@ -1,14 +1,20 @@
 -- A dump that is judged while it is read.
-use Rattle.std.specs.Prelude.{◌≡◌, ℕ, Bool, true, false, ◌⊎◌, List, [], ◌++◌, Option, Some, None, is_some, IsSome}
+use Rattle.std.specs.Prelude.{◌≡◌, ℕ, Bool, true, false, ◌⊎◌, List, [], ◌++◌, Option, Some, None, is_some, IsSome, ⊤}
 use Rattle.std.specs.Option.{option_and_then, option_map}
+use Rattle.vme_line_map.specs.Variables.{Map}
 use Rattle.vme_protocol.specs.declared.port.Port.{Port}
 use Rattle.vme_vcd_reader.specs.declared.reader.VcdReader.{VcdReader}
 use Rattle.vme_vcd_reader.specs.Bodies.{Reading, Samples, Shown, samples_of}
-use Rattle.vme_vcd_reader.specs.Readers.{IsReading, rows_of}
+use Rattle.vme_vcd_reader.specs.Headers.{Heading, Goes}
+use Rattle.vme_vcd_reader.specs.Mapping.{Declaration}
+use Rattle.vme_vcd_reader.specs.Readers.{IsHeader, IsReading, rows_of}
 use Rattle.vme_judge.specs.declared.judge.Judge.{Judge}
 use Rattle.vme_judge.specs.declared.options.Options.{Options}
+use Rattle.vme_judge.specs.declared.run.Kind.{Kind}
+use Rattle.vme_judge.specs.declared.run.Kind.TheVariants as kinds
 use Rattle.vme_judge.specs.declared.run.Run.{Run}
 use Rattle.vme_judge.specs.Dumps.{DumpSoFar, Illegal, Broken, dump_by, dump_taken, next_shown, with_presence}
+use Rattle.vme_judge.specs.DumpTexts.{begins_dump, header_judged}
 use Rattle.vme_judge.specs.Runs.{IsGoing, IsOnceRun, RunsOnce, StaysFound}
 use Rattle.vme_judge.specs.Standing.{Standing, standing, IsOnce}
 
@@ -47,24 +53,45 @@ dump_so_far r = dump_at (is_some r.rejection) (standing r.judge) r.ports.last
 abbrev pub dump_whole : Run → Reading → List ℕ → DumpSoFar
 dump_whole run r rest = dump_taken run.judge.options.now (dump_so_far run) (samples_of (rows_of run.vcd) r rest)
 
+-- a dump as far as it is read: its header, which has declared variables, or its body
+pub data Reached : Type 0 where
+  InHeader : Heading → List Declaration → Reached
+  InBody : Reading → Reached
+
+-- a reader with a map has read a dump as far
+abbrev pub HasReached : Map → Reached → VcdReader → Type 0
+HasReached map (InHeader h ds) v = IsHeader map h ds v
+HasReached map (InBody r) v = IsReading r v
+
+-- the whole dump, if this text is left to read
+abbrev pub text_whole : Map → Run → Reached → List ℕ → DumpSoFar
+text_whole map run (InHeader h ds) rest = header_judged run.judge.options.now map (dump_so_far run) ds (Goes h) rest
+text_whole map run (InBody r) rest = dump_whole run r rest
+
+-- a run that is within the header of a dump has judged nothing of it
+abbrev pub IsUnjudged : DumpSoFar → Reached → Run → Type 0
+IsUnjudged d (InHeader h ds) run = dump_so_far run ≡ d
+IsUnjudged d (InBody r) run = ⊤
+
 -- a dump is judged as it is, or it is illegal, and something was found: a run that goes on after a finding may reject it
 abbrev pub IsDumpJudgedAs : DumpSoFar → DumpSoFar → Option Standing → Type 0
 IsDumpJudgedAs dump judged m = (judged ≡ dump) ⊎ ((dump ≡ Illegal) × (m ≡ None))
 
--- a run has judged these bytes of a body, and reads on
-pub record ReadsOn (old new : Run) (r : Reading) (bytes : List ℕ) : Type 0 where
-  pub after : Reading
-  pub reading : IsReading after new.vcd
-  pub judges : (rest : List ℕ) → dump_whole old r (bytes ++ rest) ≡ dump_whole new after rest
+-- a run has judged these bytes of a dump, and reads on
+pub record ReadsOn (map : Map) (old new : Run) (reached : Reached) (bytes : List ℕ) : Type 0 where
+  pub after : Reached
+  pub reading : HasReached map after new.vcd
+  pub unjudged : (d : DumpSoFar) → IsUnjudged d reached old → IsUnjudged d after new
+  pub judges : (rest : List ℕ) → text_whole map old reached (bytes ++ rest) ≡ text_whole map new after rest
 
--- a run that ends has judged the whole body, if it is these bytes and this rest
-abbrev pub JudgesBody : Run → Run → Reading → List ℕ → Type 0
-JudgesBody old new r text = IsDumpJudgedAs (dump_whole old r text) (dump_so_far new) (standing new.judge)
+-- a run that ends has judged the whole dump, if it is these bytes and this rest
+abbrev pub JudgesDump : Map → Run → Run → Reached → List ℕ → Type 0
+JudgesDump map old new reached text = IsDumpJudgedAs (text_whole map old reached text) (dump_so_far new) (standing new.judge)
 
--- a run has taken bytes of a body: it reads on, or has judged the whole body, whatever follows
-pub record TakesDump (old new : Run) (r : Reading) (bytes : List ℕ) (goes_on : Bool) : Type 0 where
-  pub reads : goes_on ≡ true → ReadsOn old new r bytes
-  pub stops : goes_on ≡ false → (rest : List ℕ) → JudgesBody old new r (bytes ++ rest)
+-- a run has taken bytes of a dump: it reads on, or has judged the whole dump, whatever follows
+pub record TakesDump (map : Map) (old new : Run) (reached : Reached) (bytes : List ℕ) (goes_on : Bool) : Type 0 where
+  pub reads : goes_on ≡ true → ReadsOn map old new reached bytes
+  pub stops : goes_on ≡ false → (rest : List ℕ) → JudgesDump map old new reached (bytes ++ rest)
   pub stays : StaysFound old new
   pub once : RunsOnce old new goes_on
 
@@ -88,6 +115,8 @@ pub record BeginsBody (old new : Run) (goes_on : Bool) : Type 0 where
   pub reader : new.vcd ≡ old.vcd
   pub ports : new.ports ≡ old.ports
   pub rejection : new.rejection ≡ old.rejection
+  pub options : new.judge.options ≡ old.judge.options
+  pub found : new.judge.found ≡ old.judge.found
   pub goes : goes_on ≡ true
 
 -- a run for one finding stays one at the end
@@ -102,6 +131,22 @@ pub record TakesLast (old new : Run) (samples : Samples) : Type 0 where
 
 -- a run has judged a body that ends here
 pub record EndsDump (old new : Run) (r : Reading) : Type 0 where
-  pub judges : JudgesBody old new r []
+  pub judges : IsDumpJudgedAs (dump_whole old r []) (dump_so_far new) (standing new.judge)
   pub stays : StaysFound old new
   pub once : EndsOnce old new
+
+-- a run has judged a dump that ends within its header: it has no sample, if it is one
+pub record EndsHeader (old new : Run) : Type 0 where
+  pub dump : (dump_so_far new ≡ dump_so_far old) ⊎ (dump_so_far new ≡ Broken)
+  pub stays : StaysFound old new
+  pub once : EndsOnce old new
+
+-- whether bytes are those of a dump: its form is known, or it begins with them
+abbrev pub is_of_dump : Kind → List ℕ → Bool
+is_of_dump kinds.Dump bytes = true
+is_of_dump kinds.Log bytes = false
+is_of_dump kinds.Unknown bytes = begins_dump bytes
+
+-- a run has taken bytes of a dump, whose form is known then
+abbrev pub TakesPiece : Map → Run → Run → Reached → List ℕ → Bool → Type 0
+TakesPiece map old new reached bytes goes_on = (new.kind ≡ kinds.Dump) × TakesDump map old new reached bytes goes_on

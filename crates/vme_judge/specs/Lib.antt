@@ -7,6 +7,7 @@ pub mod Logs
 pub mod Verdicts
 pub mod Runs
 pub mod Dumps
+pub mod DumpTexts
 pub mod DumpRuns
 pub mod Expected
 pub mod Levels

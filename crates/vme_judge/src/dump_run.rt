@@ -1,9 +1,14 @@
 //! A dump, byte by byte.
-ghost use Rattle.std.specs.Prelude.{◌≡◌, [], ◌∷◌, true, false, is_some, Some, IfOk, Option};
+ghost use Rattle.std.specs.Prelude.{◌≡◌, ◌≢◌, [], ◌∷◌, List, true, false, is_some, Some, IfOk, Option};
+ghost use Rattle.vme_line_map.specs.Variables.{Map};
+ghost use Rattle.vme_vcd_reader.specs.declared.fault.VcdFault.TheVariants.{Memory};
 ghost use Rattle.vme_vcd_reader.specs.declared.reader.Step.TheVariants as steps;
 ghost use Rattle.vme_vcd_reader.specs.Bodies.{Reading, Samples, Shown};
-ghost use Rattle.vme_vcd_reader.specs.Readers.{IsReading, ReportsLast, ReportsSample};
-ghost use Rattle.vme_judge.specs.DumpRuns.{shown_by, BeginsBody, EndsDump, TakesDump, TakesLast, TakesNext};
+ghost use Rattle.vme_vcd_reader.specs.Headers.{Heading};
+ghost use Rattle.vme_vcd_reader.specs.Mapping.{Declaration};
+ghost use Rattle.vme_vcd_reader.specs.Readers.{IsHeader, IsReading, ReportsLast, ReportsSample};
+ghost use Rattle.vme_judge.specs.DumpTexts.{begins_dump};
+ghost use Rattle.vme_judge.specs.DumpRuns.{shown_by, BeginsBody, EndsDump, EndsHeader, HasReached, Reached, TakesDump, TakesLast, TakesNext};
 
 use crate::dump::{set_scope, take_sample};
 use crate::rejection::{Rejection, Why};
@@ -13,7 +18,21 @@ use vme_vcd_reader::{Step, VcdFault};
 
 impl Run<'_> {
     /// Takes the first bytes of a dump, with the blanks before them.
-    pub(crate) fn begin_dump(&mut self, bytes: &[u8]) -> Result<bool, AllocError> {
+    pub(crate) fn begin_dump(&mut self, bytes: &[u8]) -> Result<bool, AllocError>
+        ensures dump { (map : Map) (reached : Reached) → begins_dump bytes.now ≡ true → HasReached map reached self.old.vcd →
+            IfOk result (TakesDump map self.old self.new reached bytes.now) }
+        ensures kind { IfOk result (λ _. self.new.kind ≡ self.old.kind) }
+    {
+        if begins_dump(bytes) {
+            return self.push_dump_all(bytes);
+        }
+        self.skip_to_dump(bytes)
+    }
+
+    /// Takes the first bytes of a dump that begins with blanks.
+    fn skip_to_dump(&mut self, bytes: &[u8]) -> Result<bool, AllocError>
+        ensures kind { IfOk result (λ _. self.new.kind ≡ self.old.kind) }
+    {
         let place = bytes.iter().position(|byte| !is_space(*byte));
         let (blanks, text) = bytes.split_at(place.unwrap_or(bytes.len()));
         if !self.push_blanks(blanks)? {
@@ -24,7 +43,9 @@ impl Run<'_> {
 
     /// Takes bytes of a dump.
     pub(crate) fn push_dump_all(&mut self, bytes: &[u8]) -> Result<bool, AllocError>
-        ensures { (r : Reading) → IsReading r self.old.vcd → IfOk result (TakesDump self.old self.new r bytes.now) }
+        ensures dump { (map : Map) (reached : Reached) → HasReached map reached self.old.vcd →
+            IfOk result (TakesDump map self.old self.new reached bytes.now) }
+        ensures kind { IfOk result (λ _. self.new.kind ≡ self.old.kind) }
     {
         let mut rest = bytes;
         // A step takes a byte at least.
@@ -54,7 +75,9 @@ impl Run<'_> {
     /// Takes a byte of a dump.
     #[inline]
     fn push_dump(&mut self, byte: u8) -> Result<bool, AllocError>
-        ensures { (r : Reading) → IsReading r self.old.vcd → IfOk result (TakesDump self.old self.new r (byte ∷ [])) }
+        ensures dump { (map : Map) (reached : Reached) → HasReached map reached self.old.vcd →
+            IfOk result (TakesDump map self.old self.new reached (byte ∷ [])) }
+        ensures kind { IfOk result (λ _. self.new.kind ≡ self.old.kind) }
     {
         match self.vcd.push(byte) {
             Ok(step) => self.take_step(step),
@@ -67,6 +90,8 @@ impl Run<'_> {
     fn take_step(&mut self, step: Step) -> Result<bool, AllocError>
         ensures sample { (shown : Option Shown) → ReportsSample shown step self.old.vcd → IfOk result (TakesNext self.old self.new shown) }
         ensures header { step ≡ steps.Header → IfOk result (BeginsBody self.old self.new) }
+        ensures more { step ≡ steps.More → IfOk result (λ goes_on. goes_on ≡ true) }
+        ensures kind { IfOk result (λ _. self.new.kind ≡ self.old.kind) }
     {
         match step {
             Step::More => Ok(true),
@@ -80,7 +105,8 @@ impl Run<'_> {
 
     /// Takes the sample that a dump has completed.
     fn take_shown(&mut self) -> Result<bool, AllocError>
-        ensures { IfOk result (TakesNext self.old self.new (Some (shown_by self.old.vcd))) }
+        ensures sample { IfOk result (TakesNext self.old self.new (Some (shown_by self.old.vcd))) }
+        ensures kind { IfOk result (λ _. self.new.kind ≡ self.old.kind) }
     {
         take_sample(&mut self.judge, &mut self.ports, &self.vcd)
     }
@@ -90,6 +116,8 @@ impl Run<'_> {
         ensures stops { IfOk result (λ goes_on. goes_on ≡ false) }
         ensures rejected { IfOk result (λ _. is_some self.new.rejection ≡ true) }
         ensures judge { IfOk result (λ _. self.new.judge ≡ self.old.judge) }
+        ensures why { IfOk result (λ _. fault ≢ Memory) }
+        ensures kind { IfOk result (λ _. self.new.kind ≡ self.old.kind) }
     {
         if fault == VcdFault::Memory {
             return Err(AllocError);
@@ -103,7 +131,9 @@ impl Run<'_> {
 
     /// Ends a dump, whose last two times may still be open.
     pub(crate) fn end_dump(&mut self) -> Result<(), AllocError>
-        ensures { (r : Reading) → IsReading r self.old.vcd → IfOk result (λ _. EndsDump self.old self.new r) }
+        ensures header { (map : Map) (h : Heading) (ds : List Declaration) → IsHeader map h ds self.old.vcd →
+            IfOk result (λ _. EndsHeader self.old self.new) }
+        ensures body { (r : Reading) → IsReading r self.old.vcd → IfOk result (λ _. EndsDump self.old self.new r) }
     {
         match self.vcd.end() {
             Ok(step) => self.take_last(step),
@@ -131,4 +161,11 @@ impl Run<'_> {
         self.take_shown()?;
         Ok(())
     }
+}
+
+/// Whether the first byte of a text is `$`, that of the first word of a dump.
+fn begins_dump(text: &[u8]) -> bool
+    ensures { result ≡ begins_dump text.now }
+{
+    matches!(text, [b'$', ..])
 }

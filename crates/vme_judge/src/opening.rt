@@ -104,7 +104,7 @@ impl<'a> Judge<'a> {
         boards: &'a [Board],
     ) -> Result<Judge<'a>, AllocError>
         ensures opens { IfOk result (λ judge. standing judge ≡ Some (opening options.now boards.now)) }
-        ensures limit { IfOk result (λ judge. judge.options.now.limit ≡ options.now.limit) }
+        ensures options { IfOk result (λ judge. judge.options.now ≡ options.now) }
         ensures found { IfOk result (λ judge. judge.found ≡ 0) }
     {
         Ok(Judge {

@@ -1,10 +1,15 @@
 //! A trace, byte by byte.
-ghost use Rattle.std.specs.Prelude.{◌≡◌, ◌≢◌, ◌||◌, [], ◌∷◌, true, false, Some, None, replicate, is_some, IfOk};
-ghost use Rattle.vme_judge.specs.declared.run.Kind.TheVariants.{Unknown};
+ghost use Rattle.std.specs.Prelude.{◌≡◌, ◌≢◌, ◌||◌, List, [], ◌∷◌, true, false, Some, None, replicate, is_some, IfOk};
+ghost use Rattle.vme_judge.specs.declared.run.Kind.TheVariants.{Dump, Unknown};
 ghost use Rattle.vme_judge.specs.declared.log.Taken.TheVariants.{Legal};
 ghost use Rattle.vme_bus_log.specs.Texts.{EndsNoLine};
-ghost use Rattle.vme_vcd_reader.specs.Readers.{IsBefore};
-ghost use Rattle.vme_judge.specs.DumpRuns.{dump_so_far};
+ghost use Rattle.vme_line_map.specs.Variables.{Map};
+ghost use Rattle.vme_vcd_reader.specs.Bodies.{Reading};
+ghost use Rattle.vme_vcd_reader.specs.Headers.{Heading, beginning};
+ghost use Rattle.vme_vcd_reader.specs.Mapping.{Declaration};
+ghost use Rattle.vme_vcd_reader.specs.Readers.{IsHeader, IsReading};
+ghost use Rattle.vme_judge.specs.DumpRuns.{dump_so_far, is_of_dump, EndsDump, EndsHeader, HasReached, Reached, TakesPiece};
+ghost use Rattle.vme_judge.specs.DumpTexts.{begins_dump};
 ghost use Rattle.vme_judge.specs.Dumps.{Legal as LegalDump};
 ghost use Rattle.vme_judge.specs.Logs.{is_broken};
 ghost use Rattle.vme_judge.specs.Logs.{Legal as LegalSoFar};
@@ -58,9 +63,9 @@ impl<'a> Run<'a> {
     ) -> Result<Run<'a>, AllocError>
         ensures opens { IfOk result (λ run. run_so_far run ≡ LegalSoFar (opening options.now boards.now) None) }
         ensures dump { IfOk result (λ run. dump_so_far run ≡ LegalDump (opening options.now boards.now) (replicate 21 None)) }
-        ensures reader { IfOk result (λ run. IsBefore run.vcd) }
+        ensures reader { IfOk result (λ run. IsHeader map.now beginning [] run.vcd) }
         ensures going { IfOk result IsGoing }
-        ensures limit { IfOk result (λ run. run.judge.options.now.limit ≡ options.now.limit) }
+        ensures options { IfOk result (λ run. run.judge.options.now ≡ options.now) }
         ensures found { IfOk result (λ run. run.judge.found ≡ 0) }
         ensures line { IfOk result (λ run. run.log.line ≡ []) }
         ensures kind { IfOk result (λ run. run.kind ≡ Unknown) }
@@ -88,8 +93,10 @@ impl<'a> Run<'a> {
     ///
     /// An allocation failed.
     pub(crate) fn push_all(&mut self, bytes: &[u8]) -> Result<bool, AllocError>
-        ensures { IfOk result (λ goes_on. is_no_dump (form_after self.old.kind bytes.now) ≡ true →
+        ensures log { IfOk result (λ goes_on. is_no_dump (form_after self.old.kind bytes.now) ≡ true →
             TakesLog self.old self.new bytes.now goes_on) }
+        ensures dump { (map : Map) (reached : Reached) → is_of_dump self.old.kind bytes.now ≡ true →
+            HasReached map reached self.old.vcd → IfOk result (TakesPiece map self.old self.new reached bytes.now) }
     {
         match self.kind {
             Kind::Dump => self.push_dump_all(bytes),
@@ -100,8 +107,10 @@ impl<'a> Run<'a> {
 
     /// Takes bytes before the form is known: that of the first one that is no blank.
     fn push_unknown(&mut self, bytes: &[u8]) -> Result<bool, AllocError>
-        ensures { IfOk result (λ goes_on. is_no_dump (form_after Unknown bytes.now) ≡ true →
+        ensures log { IfOk result (λ goes_on. is_no_dump (form_after Unknown bytes.now) ≡ true →
             self.old.kind ≡ Unknown → TakesLog self.old self.new bytes.now goes_on) }
+        ensures dump { (map : Map) (reached : Reached) → begins_dump bytes.now ≡ true → HasReached map reached self.old.vcd →
+            IfOk result (TakesPiece map self.old self.new reached bytes.now) }
     {
         self.kind = form_of(bytes);
         match self.kind {
@@ -227,6 +236,10 @@ impl<'a> Run<'a> {
         ensures stays { IfOk result (λ _. is_no_dump self.old.kind ≡ true → StaysFound self.old self.new) }
         ensures once { IfOk result (λ _. is_no_dump self.old.kind ≡ true →
             IsOnceRun self.old → IsGoing self.old → IsOnceRun self.new) }
+        ensures header { (map : Map) (h : Heading) (ds : List Declaration) → self.old.kind ≡ Dump → IsHeader map h ds self.old.vcd →
+            IfOk result (λ _. EndsHeader self.old self.new) }
+        ensures body { (r : Reading) → self.old.kind ≡ Dump → IsReading r self.old.vcd →
+            IfOk result (λ _. EndsDump self.old self.new r) }
     {
         match self.kind {
             Kind::Dump => self.end_dump(),

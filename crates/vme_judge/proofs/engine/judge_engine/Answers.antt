@@ -1,5 +1,8 @@
 use Rattle.std.proofs.Common.{take, Ok, ap, ◌∙◌, rules, arith}
 use Rattle.std.proofs.lemmas.Grind.{common_steps}
+use Rattle.vme_judge.specs.declared.options.Options.{Options}
+use Rattle.vme_judge.proofs.DumpEnds.{dump_ends_at, dump_goes_on, dump_stops_at, some_taken}
+use Rattle.vme_judge.proofs.DumpPieces.{dump_begins, dump_written}
 use Rattle.vme_judge.proofs.Ends.{ends_after, goes_on_after, stops_after}
 use Rattle.vme_judge.proofs.Pieces.{between_begins, between_written}
 use Rattle.vme_judge.proofs.engine.judge_engine.Goals as goal
@@ -9,8 +12,11 @@ loop-piece-init g c = record {
   read = c.requires.reader_unmarked;
   write = c.requires.writer_unmarked;
   judged = between_begins c.args.options.now c.args.boards.now (g.S.Source.remaining c.args.trace.now) c.in_ok-run.run'
-      c.in_ok-run.ensures.opens c.in_ok-run.ensures.going c.in_ok-run.ensures.limit c.in_ok-run.ensures.found
+      c.in_ok-run.ensures.opens c.in_ok-run.ensures.going (ap (λ (o : Options). o.limit) c.in_ok-run.ensures.options) c.in_ok-run.ensures.found
       c.in_ok-run.ensures.line c.in_ok-run.ensures.kind;
+  dump = dump_begins c.args.options.now c.args.map.now c.args.boards.now (g.S.Source.remaining c.args.trace.now) c.in_ok-run.run'
+      c.in_ok-run.ensures.dump c.in_ok-run.ensures.going c.in_ok-run.ensures.options c.in_ok-run.ensures.found
+      c.in_ok-run.ensures.reader c.in_ok-run.ensures.kind;
 }
 
 pub returns-then-count-eq0-clause-log : goal.returns-then-count-eq0-clause-log
@@ -24,7 +30,7 @@ pub returns-then-not-branch-clause-log : goal.returns-then-not-branch-clause-log
 returns-then-not-branch-clause-log g c =
     stops_after c.args.options.now c.args.boards.now (g.S.Source.remaining c.args.trace.now) (g.S.Source.remaining c.loop-piece.trace)
     (g.S.Source.remaining c.read.new.self) c.loop-piece.run c.push_all.new.self _ (take c.in-Ok.count c.read.new.buffer) _
-    c.written-then-not-branch.result c.loop-piece.invariant.judged c.in-Ok.ensures.bytes c.in_ok-push_all.ensures
+    c.written-then-not-branch.result c.loop-piece.invariant.judged c.in-Ok.ensures.bytes c.in_ok-push_all.ensures.log
     (first_of (grind (arith, common_steps), search rules)) c.if-not-branch.true c.written-then-not-branch.ensures.status
 
 pub loop-piece-preserved : goal.loop-piece-preserved
@@ -35,6 +41,28 @@ loop-piece-preserved g c = record {
       c.push_all.new.self c.write_pending.new.pending
       (goes_on_after c.args.options.now c.args.boards.now (g.S.Source.remaining c.args.trace.now) (g.S.Source.remaining c.loop-piece.trace)
       (g.S.Source.remaining c.read.new.self) c.loop-piece.run c.push_all.new.self _ (take c.in-Ok.count c.read.new.buffer) _
-      c.loop-piece.invariant.judged c.in-Ok.ensures.bytes c.in_ok-push_all.ensures (first_of (grind (arith, common_steps), search rules))
+      c.loop-piece.invariant.judged c.in-Ok.ensures.bytes c.in_ok-push_all.ensures.log (first_of (grind (arith, common_steps), search rules))
       c.if-not-branch.false);
+  dump = dump_written c.args.options.now c.args.map.now c.args.boards.now (g.S.Source.remaining c.args.trace.now)
+      (g.S.Source.remaining c.read.new.self) c.push_all.new.self c.write_pending.new.pending
+      (dump_goes_on c.args.options.now c.args.map.now c.args.boards.now (g.S.Source.remaining c.args.trace.now)
+      (g.S.Source.remaining c.loop-piece.trace) (g.S.Source.remaining c.read.new.self) c.loop-piece.run c.push_all.new.self _
+      (take c.in-Ok.count c.read.new.buffer) _ c.loop-piece.invariant.dump c.in-Ok.ensures.bytes
+      (some_taken c.in-Ok.count c.read.new.buffer c.in-Ok.ensures.count c.if-count-eq0.false) (c.in_ok-push_all.ensures.dump c.args.map.now)
+      (first_of (grind (arith, common_steps), search rules)) c.if-not-branch.false);
 }
+
+pub returns-then-count-eq0-clause-dump : goal.returns-then-count-eq0-clause-dump
+returns-then-count-eq0-clause-dump g c =
+    dump_ends_at c.args.options.now c.args.map.now c.args.boards.now (g.S.Source.remaining c.args.trace.now)
+    (g.S.Source.remaining c.loop-piece.trace) (g.S.Source.remaining c.read.new.self) c.loop-piece.run c.end.new.self c.written.result
+    c.loop-piece.invariant.dump (rw c.if-count-eq0.true at c.in-Ok.ensures.bytes) (c.in-Ok.ensures.end (ap Ok c.if-count-eq0.true))
+    (c.in_ok-end.ensures.header c.args.map.now) c.in_ok-end.ensures.body c.written.ensures.dump
+
+pub returns-then-not-branch-clause-dump : goal.returns-then-not-branch-clause-dump
+returns-then-not-branch-clause-dump g c =
+    dump_stops_at c.args.options.now c.args.map.now c.args.boards.now (g.S.Source.remaining c.args.trace.now)
+    (g.S.Source.remaining c.loop-piece.trace) (g.S.Source.remaining c.read.new.self) c.loop-piece.run c.push_all.new.self _
+    (take c.in-Ok.count c.read.new.buffer) _ c.written-then-not-branch.result c.loop-piece.invariant.dump c.in-Ok.ensures.bytes
+    (some_taken c.in-Ok.count c.read.new.buffer c.in-Ok.ensures.count c.if-count-eq0.false) (c.in_ok-push_all.ensures.dump c.args.map.now)
+    (first_of (grind (arith, common_steps), search rules)) c.if-not-branch.true c.written-then-not-branch.ensures.dump

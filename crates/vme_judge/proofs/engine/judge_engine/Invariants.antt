@@ -1,4 +1,5 @@
 use Rattle.std.proofs.Common.{◌≡◌, false}
+use Rattle.vme_judge.proofs.DumpPieces.{DumpBetween}
 use Rattle.vme_judge.proofs.Pieces.{Between}
 use Rattle.vme_judge.proofs.engine.judge_engine.Given as goal
 
@@ -7,5 +8,6 @@ abbrev pub invariant-loop-piece : goal.invariant-loop-piece
 invariant-loop-piece g l = record {
   read : g.S.Source.is_marked l.trace ≡ false;
   write : g.W.Sink.is_marked l.writer ≡ false;
+  dump : DumpBetween l.options l.map l.boards (g.S.Source.remaining l.fn.trace) (g.S.Source.remaining l.trace) l.run;
   judged : Between l.options l.boards (g.S.Source.remaining l.fn.trace) (g.S.Source.remaining l.trace) l.run;
 }

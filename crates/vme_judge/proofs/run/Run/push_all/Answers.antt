@@ -1,11 +1,12 @@
+use Rattle.vme_judge.proofs.DumpPieces.{piece_begins, piece_known, piece_none}
 use Rattle.vme_judge.proofs.Pieces.{takes_any, takes_more, takes_none}
 use Rattle.vme_judge.proofs.run.Run.push_all.Goals as goal
 
-pub returns-in-Dump : goal.returns-in-Dump
-returns-in-Dump c = takes_none c.args.self.now c.push_dump_all.new.self c.args.bytes.now c.push_dump_all.result c.in-Dump.is
+pub returns-in-Dump-clause-log : goal.returns-in-Dump-clause-log
+returns-in-Dump-clause-log c = takes_none c.args.self.now c.push_dump_all.new.self c.args.bytes.now c.push_dump_all.result c.in-Dump.is
 
-pub returns-in-Log : goal.returns-in-Log
-returns-in-Log c =
+pub returns-in-Log-clause-log : goal.returns-in-Log-clause-log
+returns-in-Log-clause-log c =
     takes_more c.args.self.now c.push_log_all.new.self c.args.bytes.now c.push_log_all.result (record {
       judges = c.push_log_all.ensures.judges;
       stays = c.push_log_all.ensures.stays;
@@ -13,6 +14,18 @@ returns-in-Log c =
       once = c.push_log_all.ensures.once;
     }) c.push_log_all.ensures.kind c.in-Log.is
 
-pub returns-in-Unknown : goal.returns-in-Unknown
-returns-in-Unknown c =
-    takes_any c.args.self.now c.push_unknown.new.self c.args.bytes.now c.push_unknown.result c.push_unknown.ensures c.in-Unknown.is
+pub returns-in-Unknown-clause-log : goal.returns-in-Unknown-clause-log
+returns-in-Unknown-clause-log c =
+    takes_any c.args.self.now c.push_unknown.new.self c.args.bytes.now c.push_unknown.result c.push_unknown.ensures.log c.in-Unknown.is
+
+pub returns-in-Dump-clause-dump : goal.returns-in-Dump-clause-dump
+returns-in-Dump-clause-dump c = λ map reached of is.
+    piece_known map c.args.self.now c.push_dump_all.new.self reached c.args.bytes.now c.push_dump_all.result
+    (c.push_dump_all.ensures.dump map reached is) c.push_dump_all.ensures.kind c.in-Dump.is
+
+pub returns-in-Log-clause-dump : goal.returns-in-Log-clause-dump
+returns-in-Log-clause-dump c = λ map reached of is. absurd (piece_none c.args.self.now.kind c.args.bytes.now c.in-Log.is of)
+
+pub returns-in-Unknown-clause-dump : goal.returns-in-Unknown-clause-dump
+returns-in-Unknown-clause-dump c = λ map reached of is.
+    c.push_unknown.ensures.dump map reached (piece_begins c.args.self.now.kind c.args.bytes.now c.in-Unknown.is of) is

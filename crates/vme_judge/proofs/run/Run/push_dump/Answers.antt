@@ -1,12 +1,21 @@
+use Rattle.vme_judge.specs.DumpRuns.{InBody, InHeader}
+use Rattle.vme_judge.proofs.DumpHeaders.{heading_judged, heading_rejected}
 use Rattle.vme_judge.proofs.DumpRuns.{byte_judged, bytes_rejected}
 use Rattle.vme_judge.proofs.run.Run.push_dump.Goals as goal
 
-pub returns-in-Ok : goal.returns-in-Ok
-returns-in-Ok c = λ r is.
-    byte_judged c.args.self.now c.take_step.new.self c.push.new.self r c.args.byte c.in-Ok.step c.take_step.result (c.in-Ok.ensures.says r is)
-    (c.push.ensures.rows r is) c.take_step.ensures.sample
+pub returns-in-Ok-clause-dump : goal.returns-in-Ok-clause-dump
+returns-in-Ok-clause-dump c map (InHeader h ds) is =
+    heading_judged map c.args.self.now c.take_step.new.self c.push.new.self h ds c.args.byte c.in-Ok.step c.take_step.result
+    (c.in-Ok.ensures.heading map h ds is) c.take_step.ensures.sample c.take_step.ensures.header c.take_step.ensures.more
+returns-in-Ok-clause-dump c map (InBody r) is =
+    byte_judged map c.args.self.now c.take_step.new.self c.push.new.self r c.args.byte c.in-Ok.step c.take_step.result
+    (c.in-Ok.ensures.says r is) (c.push.ensures.rows r is) c.take_step.ensures.sample
 
-pub returns-in-Err : goal.returns-in-Err
-returns-in-Err c = λ r is.
-    bytes_rejected c.args.self.now c.reject_dump.new.self r _ c.reject_dump.result (c.in-Err.ensures.fault r is) c.reject_dump.ensures.stops
+pub returns-in-Err-clause-dump : goal.returns-in-Err-clause-dump
+returns-in-Err-clause-dump c map (InHeader h ds) is =
+    heading_rejected map c.args.self.now c.reject_dump.new.self h ds c.args.byte c.in-Err.fault c.reject_dump.result
+    (c.in-Err.ensures.rejects map h ds is) c.reject_dump.ensures.stops c.reject_dump.ensures.rejected c.reject_dump.ensures.judge
+    c.reject_dump.ensures.why
+returns-in-Err-clause-dump c map (InBody r) is =
+    bytes_rejected map c.args.self.now c.reject_dump.new.self r _ c.reject_dump.result (c.in-Err.ensures.fault r is) c.reject_dump.ensures.stops
     c.reject_dump.ensures.rejected c.reject_dump.ensures.judge

@@ -9,4 +9,4 @@ returns-in-Header-clause-sample c = λ shown is. absurd (next_never c.args.step 
 
 pub returns-in-Sample-clause-sample : goal.returns-in-Sample-clause-sample
 returns-in-Sample-clause-sample c = λ shown is.
-    next_reported c.args.self.now c.take_shown.new.self c.args.step c.take_shown.result shown c.in-Sample.is is c.take_shown.ensures
+    next_reported c.args.self.now c.take_shown.new.self c.args.step c.take_shown.result shown c.in-Sample.is is c.take_shown.ensures.sample

@@ -1,0 +1,270 @@
+-- The header of a dump, byte by byte, and the body after it.
+use Rattle.std.proofs.Common.{◌≡◌, ◌≢◌, ℕ, Bool, true, false, ◌==◌, ◌||◌, inl, inr, List, [], ◌∷◌, ◌++◌, subst, Option, Some, None, IsSome, is_some, Result, Ok, Err, IfOk, Bor, refl, ap, sym, ◌∙◌}
+use Rattle.std.specs.Prelude.{if◌then◌else◌}
+use Rattle.std.specs.Option.{option_and_then, option_map}
+use Rattle.std.specs.declared.alloc.AllocError.{AllocError}
+use Rattle.vme_line_map.specs.Variables.{Map}
+use Rattle.vme_protocol.specs.declared.port.Port.{Port}
+use Rattle.vme_vcd_reader.specs.declared.bits.Bits.{Bits}
+use Rattle.vme_vcd_reader.specs.declared.bus.BusLines.{BusLines}
+use Rattle.vme_vcd_reader.specs.declared.fault.VcdFault.{VcdFault}
+use Rattle.vme_vcd_reader.specs.declared.fault.VcdFault.TheVariants.{Memory}
+use Rattle.vme_vcd_reader.specs.declared.presence.Presence.{Presence}
+use Rattle.vme_vcd_reader.specs.declared.reader.Step.{Step}
+use Rattle.vme_vcd_reader.specs.declared.reader.Step.TheVariants as steps
+use Rattle.vme_vcd_reader.specs.declared.reader.VcdReader.{VcdReader}
+use Rattle.vme_vcd_reader.specs.declared.table.Row.{Row}
+use Rattle.vme_vcd_reader.specs.declared.variable.Mapped.{Mapped}
+use Rattle.vme_vcd_reader.specs.Bodies.{Reading, Shown, End, before, byte_taken, ends_with, fact_taken, samples_by, samples_of, at_word}
+use Rattle.vme_vcd_reader.specs.Buses.{bus_after}
+use Rattle.vme_vcd_reader.specs.Headers.{Heading, Outcome, Goes, Declares, Ends, Rejects, byte_read}
+use Rattle.vme_vcd_reader.specs.Levels.{value_of}
+use Rattle.vme_vcd_reader.specs.Mapping.{Declaration, declaration}
+use Rattle.vme_vcd_reader.specs.Matches.{lines_of}
+use Rattle.vme_vcd_reader.specs.Openings.{opening_of}
+use Rattle.vme_vcd_reader.specs.Presences.{presence_of}
+use Rattle.vme_vcd_reader.specs.Readers.{EntersBody, IsHeader, IsHeadingFault, IsReading, ReportsSample, TakesHeading, rows_of}
+use Rattle.vme_vcd_reader.specs.Tables.{has_variable, variables_after, variables_of}
+use Rattle.vme_vcd_reader.specs.Words.{Awaited, Fact, Silence, At, Change, byte_says}
+use Rattle.vme_judge.specs.declared.dump.Ports.{Ports}
+use Rattle.vme_judge.specs.declared.options.Options.{Options}
+use Rattle.vme_judge.specs.declared.rejection.Rejection.{Rejection}
+use Rattle.vme_judge.specs.declared.run.Run.{Run}
+use Rattle.vme_judge.specs.DumpRuns.{BeginsBody, EndsHeader, IsDumpJudgedAs, InHeader, InBody, TakesDump, TakesLast, TakesNext, dump_at, dump_so_far, dump_whole, text_whole}
+use Rattle.vme_judge.specs.Dumps.{DumpSoFar, Broken, broken_off, dump_taken, with_presence}
+use Rattle.vme_judge.specs.DumpTexts.{body_judged, headed, header_judged, rows_with}
+use Rattle.vme_judge.specs.Runs.{RunsOnce}
+use Rattle.vme_judge.specs.Standing.{Standing, standing}
+use Rattle.vme_judge.proofs.DumpRuns.{dump_rejected, rejected_is, rejects_once}
+
+-- variables with other links
+abbrev relinked : List Row → List Row
+relinked rows = rows_with (variables_of rows)
+
+-- the lines of the bus after a change do not depend on links
+relinked_after : (rows : List Row) (identifier : ℕ) (bits : Bits) (bus : BusLines)
+    → variables_after (relinked rows) identifier bits bus ≡ variables_after rows identifier bits bus
+relinked_after [] identifier bits bus = refl
+relinked_after (row ∷ rows) identifier bits bus =
+    ap (λ after. let r : BusLines = if row.identifier == identifier then bus_after after row.mapped bits else after in r)
+    (relinked_after rows identifier bits bus)
+
+-- whether a variable is mapped does not
+relinked_has : (rows : List Row) (identifier : ℕ) → has_variable (relinked rows) identifier ≡ has_variable rows identifier
+relinked_has [] identifier = refl
+relinked_has (row ∷ rows) identifier = ap (λ had. row.identifier == identifier || had) (relinked_has rows identifier)
+
+-- a reading after a change
+abbrev changed_to : Reading → BusLines → Bool → Option (Reading × Option Shown)
+changed_to r lines had = Some (record r { lines = lines; changed = r.changed || had }, None)
+
+-- what a word says
+fact_relinked : (rows : List Row) (r : Reading) (fact : Fact) → fact_taken (relinked rows) r fact ≡ fact_taken rows r fact
+fact_relinked rows r Silence = refl
+fact_relinked rows r (At time) = refl
+fact_relinked rows r (Change identifier levels) =
+    ap (λ lines. changed_to r lines (has_variable (relinked rows) identifier)) (relinked_after rows identifier (value_of levels) r.lines)
+    ∙ ap (changed_to r (variables_after rows identifier (value_of levels) r.lines)) (relinked_has rows identifier)
+
+-- what a byte says
+says_relinked : (rows : List Row) (r : Reading) (o : Option ((Awaited × List ℕ) × Fact))
+    → option_and_then (λ (says : (Awaited × List ℕ) × Fact). fact_taken (relinked rows) (at_word r says.0) says.1) o
+    ≡ option_and_then (λ (says : (Awaited × List ℕ) × Fact). fact_taken rows (at_word r says.0) says.1) o
+says_relinked rows r None = refl
+says_relinked rows r (Some says) = fact_relinked rows (at_word r says.0) says.1
+
+-- a byte
+byte_relinked : (rows : List Row) (r : Reading) (b : ℕ) → byte_taken (relinked rows) r b ≡ byte_taken rows r b
+byte_relinked rows r b = says_relinked rows r (byte_says r.awaited r.word b)
+
+-- samples do not depend on links
+samples_relinked : (rows : List Row) (text : List ℕ) (o : Option (Reading × Option Shown))
+    → samples_by (relinked rows) o text ≡ samples_by rows o text
+samples_relinked rows text None = refl
+samples_relinked rows [] (Some taken) = ap (λ o. before taken.1 (ends_with o)) (byte_relinked rows taken.0 32)
+samples_relinked rows (b ∷ bs) (Some taken) =
+    ap (before taken.1)
+    (samples_relinked rows bs (byte_taken (relinked rows) taken.0 b) ∙ ap (λ o. samples_by rows o bs) (byte_relinked rows taken.0 b))
+
+-- a dump at the end of its header, by whether it is rejected
+headed_at : (p : Presence) (rejected : Bool) (m : Option Standing) (ports : List (Option Port))
+    → dump_at rejected (option_map (with_presence p) m) ports ≡ headed p (dump_at rejected m ports)
+headed_at p true m ports = refl
+headed_at p false None ports = refl
+headed_at p false (Some m) ports = refl
+
+module _ (old new : Run) (v : VcdReader) (lines : List (ℕ × Mapped)) (goes_on : Bool) where
+  -- a run that begins with a body, by the lines of its header
+  headed_is : v.presence ≡ presence_of lines → BeginsBody (record old { vcd = v }) new goes_on
+      → dump_so_far new ≡ headed (presence_of lines) (dump_so_far old)
+  headed_is presence begins =
+      ap (λ (r : Option Rejection). dump_at (is_some r) (standing new.judge) new.ports.last) begins.rejection
+      ∙ ap (λ m. dump_at (is_some old.rejection) m new.ports.last) begins.judged
+      ∙ ap (λ (ports : Ports). dump_at (is_some old.rejection) (option_map (with_presence v.presence) (standing old.judge)) ports.last)
+      begins.ports
+      ∙ ap (λ p. dump_at (is_some old.rejection) (option_map (with_presence p) (standing old.judge)) old.ports.last) presence
+      ∙ headed_at (presence_of lines) (is_some old.rejection) (standing old.judge) old.ports.last
+
+  -- the samples of its body
+  body_samples : (r : Reading) (rest : List ℕ) → variables_of (rows_of v) ≡ lines → BeginsBody (record old { vcd = v }) new goes_on
+      → samples_of (rows_with lines) r rest ≡ samples_of (rows_of new.vcd) r rest
+  body_samples r rest variables begins =
+      ap (λ lines. samples_of (rows_with lines) r rest) (sym variables)
+      ∙ samples_relinked (rows_of v) rest (Some (r, None))
+      ∙ ap (λ (v : VcdReader). samples_of (rows_of v) r rest) (sym begins.reader)
+
+  -- the whole of it
+  body_begun : (rest : List ℕ) → variables_of (rows_of v) ≡ lines → v.presence ≡ presence_of lines
+      → BeginsBody (record old { vcd = v }) new goes_on
+      → body_judged old.judge.options.now (dump_so_far old) (Ok lines) rest ≡ dump_whole new (opening_of (presence_of lines).busy) rest
+  body_begun rest variables presence begins =
+      ap (dump_taken old.judge.options.now (headed (presence_of lines) (dump_so_far old)))
+      (body_samples (opening_of (presence_of lines).busy) rest variables begins)
+      ∙ ap (λ d. dump_taken old.judge.options.now d (samples_of (rows_of new.vcd) (opening_of (presence_of lines).busy) rest))
+      (sym (headed_is presence begins))
+      ∙ ap (λ (o : Bor Options). dump_taken o.now (dump_so_far new) (samples_of (rows_of new.vcd) (opening_of (presence_of lines).busy) rest))
+      (sym begins.options)
+
+-- what is remembered is there with the lines of the header too
+some_headed : (p : Presence) (m : Option Standing) → IsSome m → IsSome (option_map (with_presence p) m)
+some_headed p (Some m) some = refl
+some_headed p None some = absurd (cc some)
+
+-- a run for one finding that begins with a body
+begins_once : (old new : Run) (v : VcdReader) (goes_on : Bool) → BeginsBody (record old { vcd = v }) new goes_on → RunsOnce old new goes_on
+begins_once old new v goes_on begins = λ once going. (
+  ((ap (λ (o : Bor Options). o.now.limit) begins.options ∙ once.0.0, begins.found ∙ once.0.1), λ none. begins.rejection ∙ going.1),
+  λ on. (subst IsSome (sym begins.judged) (some_headed v.presence (standing old.judge) going.0), begins.rejection ∙ going.1),
+)
+
+-- a header that declares a variable goes on with it
+declares_as : (o : Options) (map : Map) (d : DumpSoFar) (ds : List Declaration) (h : Heading) (text : List ℕ)
+    → header_judged o map d ds (Declares h) text ≡ header_judged o map d (ds ++ declaration h ∷ []) (Goes h) text
+declares_as o map d ds h [] = refl
+declares_as o map d ds h (b ∷ bs) = refl
+
+-- the same header of the same dump
+header_same : (o p : Options) (map : Map) (d e : DumpSoFar) (ds : List Declaration) (out : Outcome) (text : List ℕ) → p ≡ o → e ≡ d
+    → header_judged o map d ds out text ≡ header_judged p map e ds out text
+header_same o p map d e ds out text options dump =
+    ap (λ o. header_judged o map d ds out text) (sym options) ∙ ap (λ d. header_judged p map d ds out text) (sym dump)
+
+module _ (map : Map) (old new : Run) (v : VcdReader) (h : Heading) (ds : List Declaration) (byte : ℕ) (goes_on : Bool) where
+  -- a run that goes on with a header
+  heading_goes : (next : Heading) (all : List Declaration) → ((rest : List ℕ) → header_judged old.judge.options.now map (dump_so_far old) ds
+      (byte_read h byte) rest ≡ header_judged old.judge.options.now map (dump_so_far old) all (Goes next) rest)
+      → IsHeader map next all v → TakesNext (record old { vcd = v }) new None goes_on → goes_on ≡ true
+      → TakesDump map old new (InHeader h ds) (byte ∷ []) goes_on
+  heading_goes next all same header takes on = record {
+    reads = λ _. record {
+      after = InHeader next all;
+      reading = subst (IsHeader map next all) (sym takes.reader) header;
+      unjudged = λ d was. takes.dump ∙ was;
+      judges = λ rest.
+          same rest
+          ∙ header_same old.judge.options.now new.judge.options.now map (dump_so_far old) (dump_so_far new) all (Goes next) rest
+          (ap (λ (o : Bor Options). o.now) takes.options) takes.dump;
+    };
+    stops = λ off. absurd (cc (off, on));
+    stays = takes.stays;
+    once = takes.once;
+  }
+
+  -- a run that begins with the body, by the lines that it has
+  heading_ends : (lines : Result (List (ℕ × Mapped)) VcdFault) → byte_read h byte ≡ Ends → lines_of map ds ≡ lines → EntersBody lines v
+      → BeginsBody (record old { vcd = v }) new goes_on → TakesDump map old new (InHeader h ds) (byte ∷ []) goes_on
+  heading_ends (Err fault) ends is enters begins = absurd enters
+  heading_ends (Ok lines) ends is enters begins = record {
+    reads = λ _. record {
+      after = InBody (opening_of (presence_of lines).busy);
+      reading = subst (IsReading (opening_of (presence_of lines).busy)) (sym begins.reader) enters.2;
+      unjudged = λ d was. tt;
+      judges = λ rest.
+          ap (λ out. header_judged old.judge.options.now map (dump_so_far old) ds out rest) ends
+          ∙ ap (λ lines. body_judged old.judge.options.now (dump_so_far old) lines rest) is
+          ∙ body_begun old new v lines goes_on rest enters.0 enters.1 begins;
+    };
+    stops = λ off. absurd (cc (off, begins.goes));
+    stays = λ none. begins.judged ∙ ap (option_map (with_presence v.presence)) none;
+    once = begins_once old new v goes_on begins;
+  }
+
+-- a run that takes a byte of a header, by what becomes of it
+heading_by : (map : Map) (old new : Run) (v : VcdReader) (h : Heading) (ds : List Declaration) (byte : ℕ) (step : Step) (out : Outcome)
+    (goes_on : Bool) → byte_read h byte ≡ out → TakesHeading map out ds step v
+    → ((shown : Option Shown) → ReportsSample shown step v → TakesNext (record old { vcd = v }) new shown goes_on)
+    → (step ≡ steps.Header → BeginsBody (record old { vcd = v }) new goes_on) → (step ≡ steps.More → goes_on ≡ true)
+    → TakesDump map old new (InHeader h ds) (byte ∷ []) goes_on
+heading_by map old new v h ds byte step (Goes next) goes_on is takes sample begins more =
+    heading_goes map old new v h ds byte goes_on next ds
+    (λ rest. ap (λ out. header_judged old.judge.options.now map (dump_so_far old) ds out rest) is) takes.1 (sample None takes.0) (more takes.0)
+heading_by map old new v h ds byte step (Declares next) goes_on is takes sample begins more =
+    heading_goes map old new v h ds byte goes_on next (ds ++ declaration next ∷ [])
+    (λ rest. ap (λ out. header_judged old.judge.options.now map (dump_so_far old) ds out rest) is
+    ∙ declares_as old.judge.options.now map (dump_so_far old) ds next rest) takes.1 (sample None takes.0) (more takes.0)
+heading_by map old new v h ds byte step Ends goes_on is takes sample begins more =
+    heading_ends map old new v h ds byte goes_on (lines_of map ds) is refl takes.1 (begins takes.0)
+heading_by map old new v h ds byte step (Rejects fault) goes_on is takes sample begins more = absurd takes
+
+-- a dump that is rejected within its header
+broken_header : (rejected : Bool) (m n : Option Standing) (ports : List (Option Port)) → n ≡ m
+    → IsDumpJudgedAs (broken_off (dump_at rejected m ports)) Broken n
+broken_header true m n ports same = inl refl
+broken_header false None n ports same = inr (refl, same)
+broken_header false (Some m) n ports same = inl refl
+
+-- a run that rejects a header
+header_rejected : (old new : Run) (whole : DumpSoFar) → whole ≡ broken_off (dump_so_far old) → is_some new.rejection ≡ true
+    → new.judge ≡ old.judge → IsDumpJudgedAs whole (dump_so_far new) (standing new.judge)
+header_rejected old new whole is rejected judge =
+    subst (λ whole. IsDumpJudgedAs whole (dump_so_far new) (standing new.judge)) (sym is)
+    (subst (λ d. IsDumpJudgedAs (broken_off (dump_so_far old)) d (standing new.judge)) (sym (rejected_is new rejected))
+    (broken_header (is_some old.rejection) (standing old.judge) (standing new.judge) old.ports.last (ap standing judge)))
+
+-- why a header is rejected: whatever follows, the text is no dump
+broken_by : (o : Options) (map : Map) (d : DumpSoFar) (ds : List Declaration) (out : Outcome) (fault : VcdFault) (rest : List ℕ)
+    → IsHeadingFault out (lines_of map ds) fault → fault ≢ Memory → header_judged o map d ds out rest ≡ broken_off d
+broken_by o map d ds (Goes h) fault rest is why = absurd (why is)
+broken_by o map d ds (Declares h) fault rest is why = absurd (why is)
+broken_by o map d ds (Rejects f) fault rest is why = refl
+broken_by o map d ds Ends fault rest (inl is) why = absurd (why is)
+broken_by o map d ds Ends fault rest (inr is) why = ap (λ lines. body_judged o d lines rest) is
+
+-- a run that rejects a byte of a header
+pub heading_rejected : (map : Map) (old new : Run) (h : Heading) (ds : List Declaration) (byte : ℕ) (fault : VcdFault)
+    (result : Result Bool AllocError) → IsHeadingFault (byte_read h byte) (lines_of map ds) fault → IfOk result (λ goes_on. goes_on ≡ false)
+    → IfOk result (λ _. is_some new.rejection ≡ true) → IfOk result (λ _. new.judge ≡ old.judge) → IfOk result (λ _. fault ≢ Memory)
+    → IfOk result (TakesDump map old new (InHeader h ds) (byte ∷ []))
+heading_rejected map old new h ds byte fault (Err failed) is stops rejected judge why = tt
+heading_rejected map old new h ds byte fault (Ok goes_on) is stops rejected judge why =
+    dump_rejected map old new (InHeader h ds) (byte ∷ []) goes_on
+    (λ rest. header_rejected old new (text_whole map old (InHeader h ds) (byte ∷ rest))
+    (broken_by old.judge.options.now map (dump_so_far old) ds (byte_read h byte) fault rest is why) rejected judge) stops judge
+
+-- a run that takes a byte of a header
+pub heading_judged : (map : Map) (old new : Run) (v : VcdReader) (h : Heading) (ds : List Declaration) (byte : ℕ) (step : Step)
+    (result : Result Bool AllocError) → TakesHeading map (byte_read h byte) ds step v
+    → ((shown : Option Shown) → ReportsSample shown step v → IfOk result (TakesNext (record old { vcd = v }) new shown))
+    → (step ≡ steps.Header → IfOk result (BeginsBody (record old { vcd = v }) new)) → (step ≡ steps.More → IfOk result (λ on. on ≡ true))
+    → IfOk result (TakesDump map old new (InHeader h ds) (byte ∷ []))
+heading_judged map old new v h ds byte step (Err failed) takes sample begins more = tt
+heading_judged map old new v h ds byte step (Ok goes_on) takes sample begins more =
+    heading_by map old new v h ds byte step (byte_read h byte) goes_on refl takes sample begins more
+
+-- a run that ends within a header
+pub header_ended : (old new : Run) (v : VcdReader) (result : Result (Unit {0}) AllocError)
+    → IfOk result (λ _. TakesLast (record old { vcd = v }) new End) → IfOk result (λ _. EndsHeader old new)
+header_ended old new v (Err failed) takes = tt
+header_ended old new v (Ok value) takes = record {
+  dump = inl takes.dump;
+  stays = takes.stays;
+  once = takes.once;
+}
+
+-- a run that rejects a header that ends here
+pub header_refused : (old new : Run) → is_some new.rejection ≡ true → new.judge ≡ old.judge → EndsHeader old new
+header_refused old new rejected judge = record {
+  dump = inr (rejected_is new rejected);
+  stays = λ none. ap standing judge ∙ none;
+  once = rejects_once old new judge;
+}
