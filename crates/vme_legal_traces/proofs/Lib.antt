@@ -3,6 +3,13 @@ mod Order
 mod Levels
 mod Simulated
 mod Strobed
+mod Rows
+mod Coded
+mod Standing
+mod Stable
+mod Written
+mod Edges
+mod Unchanged
 mod Steps
 mod Runs
 mod Decided

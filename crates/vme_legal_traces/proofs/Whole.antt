@@ -14,6 +14,8 @@ use Rattle.vme_legal_traces.specs.Samples.{trace_samples}
 use Rattle.vme_legal_traces.specs.Kept.{breaks, keeps_after, keeps, strict_scope, HasBoardsInOrder, is_transfer_rule}
 use Rattle.vme_legal_traces.proofs.Each.{kept_both, legal}
 use Rattle.vme_legal_traces.proofs.Decided.{control_kept}
+use Rattle.vme_legal_traces.proofs.Coded.{trace_coded}
+use Rattle.vme_legal_traces.proofs.Unchanged.{trace_unchanged}
 use Rattle.vme_legal_traces.proofs.Granted.{trace_granted}
 use Rattle.vme_legal_traces.proofs.Timely.{trace_timely}
 
@@ -48,9 +50,9 @@ module _ (config : Configuration) (lawful : IsLawful config) (order : HasBoardsI
   each_kept rules.Grant = trace_granted config lawful order slots timeout
   each_kept rules.Timeout = trace_timely config slots timeout most
   each_kept rules.Undefined = others rules.Undefined refl
-  each_kept rules.CodeUnknown = others rules.CodeUnknown refl
+  each_kept rules.CodeUnknown = trace_coded config lawful slots timeout
   each_kept rules.AddressChanges = others rules.AddressChanges refl
-  each_kept rules.DataChange = others rules.DataChange refl
+  each_kept rules.DataChange = trace_unchanged config lawful slots timeout
   each_kept rules.Transfer = others rules.Transfer refl
   each_kept rules.PortUndefined = unbroken rules.PortUndefined (λ w s. refl) (strict_scope timeout) (trace_samples config slots)
   each_kept rules.BusError = unbroken rules.BusError (λ w s. refl) (strict_scope timeout) (trace_samples config slots)

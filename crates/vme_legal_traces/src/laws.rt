@@ -6,7 +6,7 @@ ghost use Rattle.vme_script.specs.Lawful.{IsLawful};
 ghost use Rattle.vme_protocol.specs.declared.sample.Sample.{Sample};
 ghost use Rattle.vme_protocol.specs.declared.scope.Scope.{Scope};
 ghost use Rattle.vme_protocol.specs.declared.rule.Rule.{Rule};
-ghost use Rattle.vme_protocol.specs.declared.rule.Rule.TheVariants.{Grant, Timeout};
+ghost use Rattle.vme_protocol.specs.declared.rule.Rule.TheVariants.{CodeUnknown, DataChange, Grant, Timeout};
 ghost use Rattle.vme_protocol.specs.declared.verdict.Verdict.TheVariants.{Legal};
 ghost use Rattle.vme_protocol.specs.Verdicts.{verdict};
 ghost use Rattle.vme_legal_traces.specs.Samples.{trace_samples};
@@ -45,9 +45,24 @@ pub fn our_traces_keep_the_bus_timer()
         IsTrue (keeps Timeout (strict_scope timeout) (trace_samples config slots)) }
 {}
 
+/// States that our own traces keep the rule of codes, J2 (IEEE 1014-1987, 2.2.2): an answer ends only
+/// cycles whose address modifier, as AS* fell, has a row in the table of codes.
+pub fn our_traces_keep_the_rule_of_codes()
+    ensures { (config : Configuration) (slots : List ℕ) (timeout : ℕ) → IsLawful config →
+        IsTrue (keeps CodeUnknown (strict_scope timeout) (trace_samples config slots)) }
+{}
+
+/// States that our own traces keep the rule of data, J7 (IEEE 1014-1987, 2.4): WRITE* stands while a data
+/// strobe is low, the data of a write stand from the sample before the first strobe falls to the answer,
+/// and those of a read from the answer until a strobe rises.
+pub fn our_traces_keep_the_rule_of_data()
+    ensures { (config : Configuration) (slots : List ℕ) (timeout : ℕ) → IsLawful config →
+        IsTrue (keeps DataChange (strict_scope timeout) (trace_samples config slots)) }
+{}
+
 /// States what is left of the law that our own traces are legal: the verdict on the trace of any turns of a
 /// lawful configuration, whose boards stand in order of slots, is legal in the strict mode if its samples
-/// keep J1, J2, J5, J7 and J13.
+/// keep J1, J5 and J13.
 pub fn our_traces_are_legal_if_their_transfers_are()
     ensures { (config : Configuration) (slots : List ℕ) (timeout : ℕ) → IsLawful config →
         HasBoardsInOrder config → 10 ≤ timeout →

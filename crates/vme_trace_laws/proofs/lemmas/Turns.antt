@@ -24,3 +24,15 @@ pub use Rattle.vme_trace_laws.proofs.turns.Places.{named_slot, same_board}
 pub use Rattle.vme_trace_laws.proofs.turns.Runs.{place_below}
 -- a grant goes to a slot that requests the bus, while BBSY* is high
 pub use Rattle.vme_trace_laws.proofs.turns.Granted.{slot_granted, request_granted, busy_granted}
+-- the transfer that a line is at is that of a lawful request
+pub use Rattle.vme_trace_laws.proofs.turns.Requested.{IsRequestedTask, IsRequestedView, view_requested, given_requested}
+-- the task of a line
+pub use Rattle.vme_trace_laws.proofs.turns.Views.{line_view}
+-- the datum of a line is that of its task
+pub use Rattle.vme_trace_laws.proofs.turns.LineViews.{line_datum_of}
+-- what a turn of a stepper did is the next call of a line that has had some replies
+pub use Rattle.vme_trace_laws.proofs.turns.Turns.{processors_get, IsGiven, lines_begin, observed_is, observed_none}
+-- the events of turns are in order
+pub use Rattle.vme_trace_laws.proofs.turns.Orders.{IsOrderly, run_orderly, run_data}
+-- the first handshake of a datum begins its transfer if it is the first
+pub use Rattle.vme_trace_laws.proofs.turns.Handshakes.{first_opens}

@@ -24,3 +24,11 @@ pub use Rattle.vme_trace_laws.proofs.waves.SlotEnds.{chain_at, chain_rests}
 pub use Rattle.vme_trace_laws.proofs.waves.Grants.{grant_low, chain_low, busy_taken}
 -- BBSY* of the bus at an edge of an event
 pub use Rattle.vme_trace_laws.proofs.waves.Arbitration.{bus_busy_at}
+-- the lines of a cycle are moved by the handshakes of an event alone
+pub use Rattle.vme_trace_laws.proofs.waves.EventLines.{IsCycleLine, one_parts, two_parts}
+-- AM5 to AM0 and WRITE* in a handshake
+pub use Rattle.vme_trace_laws.proofs.waves.Addresses.{modifier_after, write_after}
+-- a change of this variable, of another one, and changes that leave it alone
+pub use Rattle.vme_trace_laws.proofs.waves.Afters.{other, last_other, own, last_own, silent, after_append}
+-- the groups of changes of a handshake, and the lines that each leaves alone
+pub use Rattle.vme_trace_laws.proofs.waves.Groups.{level_line, address_strobe_quiet, address_quiet, address_level_quiet, level_quiet, data_strobe_quiet, data_quiet, answer_quiet}
