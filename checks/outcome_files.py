@@ -10,6 +10,9 @@ import re
 
 BOARD = "[[board]]\nslot = {}\nbase = {}\nsize = 16\nscript = '''\n{}\n'''\n"
 BUFFERING = BOARD.format(1, 0, "lw 00000000 01\nr 09 00001000 1") + BOARD.format(2, 4096, "lw 00000000 01\nr 09 00000000 1")
+# Two processors that write their own board and read the other one, each twice.
+TWICE = "lw 00000000 01\nr 09 {0:08x} 1\nlw 00000001 02\nr 09 {0:08x} 2"
+CROSSED = BOARD.format(1, 0, TWICE.format(4096)) + BOARD.format(2, 4096, TWICE.format(0))
 ROTATING = 'arbiter = "rotating"\n' + BUFFERING.replace("base = 0\n", "base = 0\nlevel = 1\n")
 WAITING = "tries = 2\n" + BOARD.format(1, 0, "lw 00000000 01") + BOARD.format(2, 4096, "await 09 00000000 01\nr 09 00000000 1")
 IDLE = "[[board]]\nslot = 1\nbase = 0\nsize = 16\n"
