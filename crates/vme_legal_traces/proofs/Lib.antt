@@ -22,5 +22,12 @@ mod Pairs
 mod Granting
 mod Granted
 mod Timely
+mod Walked
+mod Named
+mod Addressed
+mod Lines
+mod Addresses
+mod Shaken
+mod Unmoved
 mod Whole
 mod Boards

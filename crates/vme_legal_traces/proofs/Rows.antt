@@ -70,6 +70,10 @@ read_has : (code : ℕ) (row : CodeRow) → read_code code ≡ Ok row → row.co
 unfolding read_code
 read_has code row h = found_code code table row (read_at code row (row_at code) h)
 
+-- the row that is read for the code of a lawful transfer's row is that row
+pub code_read : (t : Transfer) → IsLawfulTransfer t → read_code t.am.code ≡ Ok t.am
+code_read t lawful = let row = row_of_lawful t lawful in ap read_code (read_has (code_of t.request) t.am row) ∙ row
+
 -- the code of signals has a row
 abbrev pub IsRowed : SignalLines → Type 0
 IsRowed s = has_row s.am.code ≡ true

@@ -15,7 +15,7 @@ use Rattle.vme_trace.specs.Bus.{is_wide, address_number, drive_edge, upper_numbe
 use Rattle.vme_trace.specs.Events.{event_changes}
 use Rattle.vme_trace.specs.Shown.{is_code, value_after, value_at}
 use Rattle.vme_trace_laws.proofs.lemmas.Waves.{HasOne, HasTwo, other, last_other, own, last_own, silent, after_append, level_line, address_strobe_quiet, address_quiet, address_level_quiet, level_quiet, data_strobe_quiet, data_quiet, answer_quiet, one_parts, two_parts}
-use Rattle.vme_legal_traces.specs.Samples.{is_high, number_of, bit_of, lanes_of, edge_sample, sample_of, value_shown}
+use Rattle.vme_legal_traces.specs.Samples.{is_high, number_of, bit_of, lanes_of, data_number, edge_sample, sample_of, value_shown}
 
 -- at an edge a handshake moves no line of address or data
 pub record IsStill (t : Handshake) (k : ℕ) : Type 0 where
@@ -195,9 +195,9 @@ module _ (config : Configuration) (events : List Observation) (o : Observation) 
       let l : Value = value_shown config events o k LongWord in
       let d : Value = value_shown config events o k DataLines in
       ap (λ (v : Value). (number_of v + bit_of (value_shown config events o (suc k) LongWord)) * 2 ^ 32
-      + upper_number (lanes_of (value_shown config events o (suc k) DataLines))) (address a)
-      ∙ ap (λ (v : Value). (number_of a + bit_of v) * 2 ^ 32 + upper_number (lanes_of (value_shown config events o (suc k) DataLines))) (level l)
-      ∙ ap (λ (v : Value). (number_of a + bit_of l) * 2 ^ 32 + upper_number (lanes_of v)) (lanes d)
+      + data_number (lanes_of (value_shown config events o (suc k) DataLines))) (address a)
+      ∙ ap (λ (v : Value). (number_of a + bit_of v) * 2 ^ 32 + data_number (lanes_of (value_shown config events o (suc k) DataLines))) (level l)
+      ∙ ap (λ (v : Value). (number_of a + bit_of l) * 2 ^ 32 + data_number (lanes_of v)) (lanes d)
 
   -- WRITE* of an event with one handshake
   pub one_write : (one : HasOne o) (k : ℕ) → KeepsLevel one.t (suc k) → (edge_sample config events o (suc k)).write ≡ (edge_sample config events o k).write

@@ -16,6 +16,7 @@ use Rattle.vme_legal_traces.proofs.Each.{kept_both, legal}
 use Rattle.vme_legal_traces.proofs.Decided.{control_kept}
 use Rattle.vme_legal_traces.proofs.Coded.{trace_coded}
 use Rattle.vme_legal_traces.proofs.Unchanged.{trace_unchanged}
+use Rattle.vme_legal_traces.proofs.Unmoved.{trace_unmoved}
 use Rattle.vme_legal_traces.proofs.Granted.{trace_granted}
 use Rattle.vme_legal_traces.proofs.Timely.{trace_timely}
 
@@ -51,7 +52,7 @@ module _ (config : Configuration) (lawful : IsLawful config) (order : HasBoardsI
   each_kept rules.Timeout = trace_timely config slots timeout most
   each_kept rules.Undefined = others rules.Undefined refl
   each_kept rules.CodeUnknown = trace_coded config lawful slots timeout
-  each_kept rules.AddressChanges = others rules.AddressChanges refl
+  each_kept rules.AddressChanges = trace_unmoved config lawful slots timeout
   each_kept rules.DataChange = trace_unchanged config lawful slots timeout
   each_kept rules.Transfer = others rules.Transfer refl
   each_kept rules.PortUndefined = unbroken rules.PortUndefined (λ w s. refl) (strict_scope timeout) (trace_samples config slots)

@@ -197,17 +197,17 @@ Shows None v = Unit {0}
 Shows (Some one) v = v ≡ level_of (high_for one.transfer)
 
 -- the board of the open transfer
-abbrev board_of : Option OpenTransfer → Option ℕ
+abbrev pub board_of : Option OpenTransfer → Option ℕ
 board_of None = None
 board_of (Some one) = Some one.board
 
 -- no transfer is open
-none_open : (going : Option OpenTransfer) → board_of going ≡ None → going ≡ None
+pub none_open : (going : Option OpenTransfer) → board_of going ≡ None → going ≡ None
 none_open None is = refl
 none_open (Some one) is = absurd (cc is)
 
 -- a command to a board has a board's reply
-board_replies : (machine after : Machine) (who x : ℕ) (command : Option Command) (reply : EventReply) (call : Call) → call ≡ OnBoard x command
+pub board_replies : (machine after : Machine) (who x : ℕ) (command : Option Command) (reply : EventReply) (call : Call) → call ≡ OnBoard x command
     → (after, reply) ≡ machine_step machine who call → (r : Reply) × (reply ≡ replies.Board r)
 board_replies machine after who x command reply call is step = by_board (slice_get machine.boards x) refl
   where

@@ -1,5 +1,5 @@
 -- The samples of a trace: the levels that its variables show at each edge of each event.
-use Rattle.std.specs.Prelude.{ℕ, zero, suc, ◌+◌, ◌-◌, ◌*◌, ◌^◌, ◌==◌, Bool, true, false, not, if◌then◌else◌, List, [], ◌∷◌, ◌++◌, length, map, Option, Some, None, bit_or}
+use Rattle.std.specs.Prelude.{ℕ, zero, suc, ◌+◌, ◌-◌, ◌*◌, ◌%◌, ◌^◌, ◌==◌, Bool, true, false, not, if◌then◌else◌, List, [], ◌∷◌, ◌++◌, length, map, Option, Some, None, bit_or}
 use Rattle.std.specs.List.{range_with_len}
 use Rattle.vme_script.specs.Configurations.{Configuration}
 use Rattle.vme_line_task.specs.Scripts.{slot_at}
@@ -10,7 +10,7 @@ use Rattle.vme_trace.specs.declared.dump.change.Value.TheVariants.{Low, High, Fr
 use Rattle.vme_trace.specs.declared.dump.edge.TheConstants.{EDGES}
 use Rattle.vme_trace.specs.declared.dump.variable.Variable.{Variable}
 use Rattle.vme_trace.specs.declared.dump.variable.Variable.TheVariants.{EventNumber, EventSlot, Holder, BusBusy, AddressStrobe, AddressModifier, AddressLines, LongWord, WriteLine, FirstStrobe, SecondStrobe, DataLines, UpperDataLines, Acknowledge, BusError, CurrentLine, RequestLine, GrantLines, BusyLine, Selected, PortSelect, PortWrite, PortOffset, PortData, PortDone, PortError}
-use Rattle.vme_trace.specs.Bus.{lane_at, upper_number}
+use Rattle.vme_trace.specs.Bus.{byte_on, lane_at}
 use Rattle.vme_trace.specs.Changes.{no_lanes}
 use Rattle.vme_trace.specs.Observations.{observations}
 use Rattle.vme_trace.specs.Shown.{value_in_run}
@@ -58,10 +58,20 @@ free_lanes lanes =
     16777216 * free_lane (lane_at lanes 0) + 65536 * free_lane (lane_at lanes 1) + 256 * free_lane (lane_at lanes 2)
     + free_lane (lane_at lanes 3)
 
+-- the number that a lane's eight lines show: the last eight bits of its byte, as in the text; 0 where it carries none
+abbrev pub lane_number : Option ℕ → ℕ
+lane_number lane = byte_on lane % 2 ^ 8
+
+-- the number that D31 to D00 show
+abbrev pub data_number : List (Option ℕ) → ℕ
+data_number lanes =
+    16777216 * lane_number (lane_at lanes 0) + 65536 * lane_number (lane_at lanes 1) + 256 * lane_number (lane_at lanes 2)
+    + lane_number (lane_at lanes 3)
+
 -- A31 to A01 with LWORD* in the place of A00, and D31 to D00
 abbrev pub lines_shown : (Variable → Value) → ℕ
 lines_shown values =
-    (number_of (values AddressLines) + bit_of (values LongWord)) * 2 ^ 32 + upper_number (lanes_of (values DataLines))
+    (number_of (values AddressLines) + bit_of (values LongWord)) * 2 ^ 32 + data_number (lanes_of (values DataLines))
 
 -- those of these lines that nothing drives
 abbrev pub lines_free : (Variable → Value) → ℕ

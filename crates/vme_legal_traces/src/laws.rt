@@ -6,7 +6,7 @@ ghost use Rattle.vme_script.specs.Lawful.{IsLawful};
 ghost use Rattle.vme_protocol.specs.declared.sample.Sample.{Sample};
 ghost use Rattle.vme_protocol.specs.declared.scope.Scope.{Scope};
 ghost use Rattle.vme_protocol.specs.declared.rule.Rule.{Rule};
-ghost use Rattle.vme_protocol.specs.declared.rule.Rule.TheVariants.{CodeUnknown, DataChange, Grant, Timeout};
+ghost use Rattle.vme_protocol.specs.declared.rule.Rule.TheVariants.{AddressChanges, CodeUnknown, DataChange, Grant, Timeout};
 ghost use Rattle.vme_protocol.specs.declared.verdict.Verdict.TheVariants.{Legal};
 ghost use Rattle.vme_protocol.specs.Verdicts.{verdict};
 ghost use Rattle.vme_legal_traces.specs.Samples.{trace_samples};
@@ -52,6 +52,14 @@ pub fn our_traces_keep_the_rule_of_codes()
         IsTrue (keeps CodeUnknown (strict_scope timeout) (trace_samples config slots)) }
 {}
 
+/// States that our own traces keep the rule of the address, J5 (IEEE 1014-1987, 2.4): AM5 to AM0, the address lines
+/// that count with the code, and LWORD* stand from the sample before AS* falls, while AS* is low; with eight-byte data
+/// up to the first answer, since the lines then carry data.
+pub fn our_traces_keep_the_rule_of_addresses()
+    ensures { (config : Configuration) (slots : List ℕ) (timeout : ℕ) → IsLawful config →
+        IsTrue (keeps AddressChanges (strict_scope timeout) (trace_samples config slots)) }
+{}
+
 /// States that our own traces keep the rule of data, J7 (IEEE 1014-1987, 2.4): WRITE* stands while a data
 /// strobe is low, the data of a write stand from the sample before the first strobe falls to the answer,
 /// and those of a read from the answer until a strobe rises.
@@ -62,7 +70,7 @@ pub fn our_traces_keep_the_rule_of_data()
 
 /// States what is left of the law that our own traces are legal: the verdict on the trace of any turns of a
 /// lawful configuration, whose boards stand in order of slots, is legal in the strict mode if its samples
-/// keep J1, J5 and J13.
+/// keep J1 and J13.
 pub fn our_traces_are_legal_if_their_transfers_are()
     ensures { (config : Configuration) (slots : List ℕ) (timeout : ℕ) → IsLawful config →
         HasBoardsInOrder config → 10 ≤ timeout →

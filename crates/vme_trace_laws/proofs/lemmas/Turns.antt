@@ -2,8 +2,8 @@
 
 -- a variable that each event leaves at rest is at rest after events
 pub use Rattle.vme_trace_laws.proofs.turns.Rests.{run_rests}
--- AS* at an edge of an event, by its handshakes
-pub use Rattle.vme_trace_laws.proofs.turns.AddressStrobes.{opens_with, ArePaired, event_paired, strobe_at, none_ends}
+-- AS* at an edge of an event, by its handshakes, and after it
+pub use Rattle.vme_trace_laws.proofs.turns.AddressStrobes.{opens_with, ArePaired, event_paired, strobe_at, strobe_last, none_ends}
 -- an event in its run, and AS* before its handshake
 pub use Rattle.vme_trace_laws.proofs.turns.RunStrobes.{at_event, strobe_before_event}
 -- AS* is low only while the slot of the transfer's board drives BBSY*

@@ -26,8 +26,8 @@ pub use Rattle.vme_trace_laws.proofs.waves.Grants.{grant_low, chain_low, busy_ta
 pub use Rattle.vme_trace_laws.proofs.waves.Arbitration.{bus_busy_at}
 -- the lines of a cycle are moved by the handshakes of an event alone
 pub use Rattle.vme_trace_laws.proofs.waves.EventLines.{IsCycleLine, one_parts, two_parts}
--- AM5 to AM0 and WRITE* in a handshake
-pub use Rattle.vme_trace_laws.proofs.waves.Addresses.{modifier_after, write_after}
+-- AM5 to AM0, A31 to A01, LWORD* and WRITE* in a handshake
+pub use Rattle.vme_trace_laws.proofs.waves.Addresses.{modifier_after, address_after, long_word_after, write_after}
 -- a change of this variable, of another one, and changes that leave it alone
 pub use Rattle.vme_trace_laws.proofs.waves.Afters.{other, last_other, own, last_own, silent, after_append}
 -- the groups of changes of a handshake, and the lines that each leaves alone
