@@ -9,5 +9,7 @@ pub mod DumpSamples
 pub mod DumpRuns
 pub mod DumpBytes
 pub mod DumpHeaders
+pub mod BlankLines
+pub mod Blanks
 pub mod DumpPieces
 pub mod DumpEnds

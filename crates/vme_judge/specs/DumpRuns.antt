@@ -10,11 +10,10 @@ use Rattle.vme_vcd_reader.specs.Mapping.{Declaration}
 use Rattle.vme_vcd_reader.specs.Readers.{IsHeader, IsReading, rows_of}
 use Rattle.vme_judge.specs.declared.judge.Judge.{Judge}
 use Rattle.vme_judge.specs.declared.options.Options.{Options}
-use Rattle.vme_judge.specs.declared.run.Kind.{Kind}
 use Rattle.vme_judge.specs.declared.run.Kind.TheVariants as kinds
 use Rattle.vme_judge.specs.declared.run.Run.{Run}
 use Rattle.vme_judge.specs.Dumps.{DumpSoFar, Illegal, Broken, dump_by, dump_taken, next_shown, with_presence}
-use Rattle.vme_judge.specs.DumpTexts.{begins_dump, header_judged}
+use Rattle.vme_judge.specs.DumpTexts.{header_judged}
 use Rattle.vme_judge.specs.Runs.{IsGoing, IsOnceRun, RunsOnce, StaysFound}
 use Rattle.vme_judge.specs.Standing.{Standing, standing, IsOnce}
 
@@ -141,12 +140,6 @@ pub record EndsHeader (old new : Run) : Type 0 where
   pub stays : StaysFound old new
   pub once : EndsOnce old new
 
--- whether bytes are those of a dump: its form is known, or it begins with them
-abbrev pub is_of_dump : Kind → List ℕ → Bool
-is_of_dump kinds.Dump bytes = true
-is_of_dump kinds.Log bytes = false
-is_of_dump kinds.Unknown bytes = begins_dump bytes
-
--- a run has taken bytes of a dump, whose form is known then
+-- a run has taken bytes of a dump, whose form is known
 abbrev pub TakesPiece : Map → Run → Run → Reached → List ℕ → Bool → Type 0
 TakesPiece map old new reached bytes goes_on = (new.kind ≡ kinds.Dump) × TakesDump map old new reached bytes goes_on

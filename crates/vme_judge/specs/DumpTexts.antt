@@ -1,5 +1,5 @@
 -- Which texts are legal dumps: a header, byte by byte, and the samples of the body that follows it.
-use Rattle.std.specs.Prelude.{◌≡◌, ◌≢◌, ℕ, Bool, false, ◌==◌, ◌⊎◌, List, [], ◌∷◌, ◌++◌, map as map_list, replicate, None, Result, Ok, Err}
+use Rattle.std.specs.Prelude.{◌≡◌, ◌≢◌, ℕ, ◌+◌, nat_lt, Bool, false, ◌==◌, ◌&&◌, ◌||◌, if◌then◌else◌, ◌⊎◌, List, [], ◌∷◌, ◌++◌, map as map_list, replicate, None, Result, Ok, Err}
 use Rattle.vme_line_map.specs.Variables.{Map}
 use Rattle.vme_vcd_reader.specs.declared.fault.VcdFault.{VcdFault}
 use Rattle.vme_vcd_reader.specs.declared.presence.Presence.{Presence}
@@ -17,6 +17,7 @@ use Rattle.vme_judge.specs.declared.fault.Status.TheVariants.{Rejected}
 use Rattle.vme_judge.specs.declared.options.Options.{Options}
 use Rattle.vme_judge.specs.Dumps.{DumpSoFar, Legal, Illegal, Broken, broken_off, dump_status, dump_taken, with_presence}
 use Rattle.vme_judge.specs.Openings.{opening}
+use Rattle.vme_judge.specs.Verdicts.{is_space}
 
 -- variables as a table has them; samples do not depend on the links of its lists
 abbrev pub rows_with : List (ℕ × Mapped) → List Row
@@ -45,14 +46,19 @@ header_judged o map d ds (Goes h) (b ∷ bs) = header_judged o map d ds (byte_re
 header_judged o map d ds (Declares h) [] = broken_off d
 header_judged o map d ds (Declares h) (b ∷ bs) = header_judged o map d (ds ++ declaration h ∷ []) (byte_read h b) bs
 
--- whether the first byte of a text is $, that of the first word of a dump
-abbrev pub begins_dump : List ℕ → Bool
-begins_dump [] = false
-begins_dump (b ∷ text) = b == 36
+-- whether a line of more than 255 blanks ends before the first byte of a text that is no blank; the text stands after
+-- blanks of a line
+abbrev pub has_long_blanks : ℕ → List ℕ → Bool
+has_long_blanks blanks [] = false
+has_long_blanks blanks (b ∷ text) =
+    is_space b && (if b == 10 then nat_lt 255 blanks || has_long_blanks 0 text else has_long_blanks (blanks + 1) text)
 
--- a dump, judged from what is remembered before its first sample
+-- a dump, judged from what is remembered before its first sample; a line of blanks before it may not be longer than one of
+-- a log
 unfoldable pub dump_of : Options → Map → List Board → List ℕ → DumpSoFar
-dump_of o map boards text = header_judged o map (Legal (opening o boards) (replicate 21 None)) [] (Goes beginning) text
+dump_of o map boards text =
+    if has_long_blanks 0 text then Broken
+    else header_judged o map (Legal (opening o boards) (replicate 21 None)) [] (Goes beginning) text
 
 -- a status says how a dump was judged; where another number of findings than one is asked for, an illegal dump may be
 -- rejected for a word after the first finding

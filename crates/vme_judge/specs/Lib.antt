@@ -9,6 +9,7 @@ pub mod Runs
 pub mod Dumps
 pub mod DumpTexts
 pub mod DumpRuns
+pub mod Blanks
 pub mod Expected
 pub mod Levels
 pub mod Messages

@@ -77,6 +77,7 @@ pub record TakesLog (old new : Run) (bytes : List ℕ) (goes_on : Bool) : Type 0
   pub stops : goes_on ≡ false → IsOver (run_so_far new)
   pub once : RunsOnce old new goes_on
 
--- the reader of lines, the datum before and the form of the trace stay
+-- the readers, the datum before, the local ports and the form of the trace stay
 abbrev pub KeepsReader : Run → Run → Type 0
-KeepsReader old new = (new.log ≡ old.log) × (new.state ≡ old.state) × (new.kind ≡ old.kind)
+KeepsReader old new =
+    (new.log ≡ old.log) × (new.state ≡ old.state) × (new.kind ≡ old.kind) × (new.vcd ≡ old.vcd) × (new.ports ≡ old.ports)

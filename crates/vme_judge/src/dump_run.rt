@@ -1,5 +1,5 @@
 //! A dump, byte by byte.
-ghost use Rattle.std.specs.Prelude.{◌≡◌, ◌≢◌, [], ◌∷◌, List, true, false, is_some, Some, IfOk, Option};
+ghost use Rattle.std.specs.Prelude.{◌≡◌, ◌≢◌, ℕ, [], ◌∷◌, ◌++◌, List, slice_get, true, false, is_some, Some, IfOk, Option};
 ghost use Rattle.vme_line_map.specs.Variables.{Map};
 ghost use Rattle.vme_vcd_reader.specs.declared.fault.VcdFault.TheVariants.{Memory};
 ghost use Rattle.vme_vcd_reader.specs.declared.reader.Step.TheVariants as steps;
@@ -7,8 +7,10 @@ ghost use Rattle.vme_vcd_reader.specs.Bodies.{Reading, Samples, Shown};
 ghost use Rattle.vme_vcd_reader.specs.Headers.{Heading};
 ghost use Rattle.vme_vcd_reader.specs.Mapping.{Declaration};
 ghost use Rattle.vme_vcd_reader.specs.Readers.{IsHeader, IsReading, ReportsLast, ReportsSample};
-ghost use Rattle.vme_judge.specs.DumpTexts.{begins_dump};
+ghost use Rattle.vme_judge.specs.declared.run.Kind.TheVariants.{Dump, Unknown};
+ghost use Rattle.vme_judge.specs.Blanks.{AreBlanks, BeginsDump, IsBlankSoFar};
 ghost use Rattle.vme_judge.specs.DumpRuns.{shown_by, BeginsBody, EndsDump, EndsHeader, HasReached, Reached, TakesDump, TakesLast, TakesNext};
+ghost use Rattle.vme_judge.specs.Runs.{form_after};
 
 use crate::dump::{set_scope, take_sample};
 use crate::rejection::{Rejection, Why};
@@ -19,22 +21,11 @@ use vme_vcd_reader::{Step, VcdFault};
 impl Run<'_> {
     /// Takes the first bytes of a dump, with the blanks before them.
     pub(crate) fn begin_dump(&mut self, bytes: &[u8]) -> Result<bool, AllocError>
-        ensures dump { (map : Map) (reached : Reached) → begins_dump bytes.now ≡ true → HasReached map reached self.old.vcd →
-            IfOk result (TakesDump map self.old self.new reached bytes.now) }
+        ensures first { (map : Map) (line : List ℕ) → form_after Unknown bytes.now ≡ Dump → IsBlankSoFar map line self.old →
+            IfOk result (BeginsDump map line self.old self.new bytes.now) }
         ensures kind { IfOk result (λ _. self.new.kind ≡ self.old.kind) }
     {
-        if begins_dump(bytes) {
-            return self.push_dump_all(bytes);
-        }
-        self.skip_to_dump(bytes)
-    }
-
-    /// Takes the first bytes of a dump that begins with blanks.
-    fn skip_to_dump(&mut self, bytes: &[u8]) -> Result<bool, AllocError>
-        ensures kind { IfOk result (λ _. self.new.kind ≡ self.old.kind) }
-    {
-        let place = bytes.iter().position(|byte| !is_space(*byte));
-        let (blanks, text) = bytes.split_at(place.unwrap_or(bytes.len()));
+        let (blanks, text) = cut_blanks(bytes);
         if !self.push_blanks(blanks)? {
             return Ok(false);
         }
@@ -163,9 +154,16 @@ impl Run<'_> {
     }
 }
 
-/// Whether the first byte of a text is `$`, that of the first word of a dump.
-fn begins_dump(text: &[u8]) -> bool
-    ensures { result ≡ begins_dump text.now }
+/// The bytes before the first one that is no blank, and those from it on.
+fn cut_blanks(bytes: &[u8]) -> (&[u8], &[u8])
+    ensures blanks { AreBlanks result.0.now }
+    ensures parts { bytes.now ≡ result.0.now ++ result.1.now }
+    ensures first { form_after Unknown bytes.now ≡ Dump → slice_get result.1.now 0 ≡ Some 36 }
 {
-    matches!(text, [b'$', ..])
+    for (index, byte) in bytes.iter().enumerate() {
+        if !is_space(*byte) {
+            return bytes.split_at(index);
+        }
+    }
+    (bytes, &[])
 }

@@ -2,7 +2,7 @@
 ghost use Rattle.std.specs.Prelude.{◌≡◌, true, false, IfOk, IfSome};
 ghost use Rattle.vme_judge.specs.DumpRuns.{dump_so_far};
 ghost use Rattle.vme_judge.specs.Dumps.{dump_status};
-ghost use Rattle.vme_judge.specs.DumpTexts.{begins_dump, IsDumpStatusOf};
+ghost use Rattle.vme_judge.specs.DumpTexts.{IsDumpStatusOf};
 ghost use Rattle.vme_judge.specs.Faults.{is_read_end, is_write_end};
 ghost use Rattle.vme_judge.specs.Logs.{status_of};
 ghost use Rattle.vme_judge.specs.Runs.{run_so_far};
@@ -23,8 +23,8 @@ const PIECE: usize = 16_384;
 /// Judges a trace, a dump or a bus log, by the boards of a configuration, and writes the verdict.
 ///
 /// The trace is judged while it is read: after a sample that is not legal nothing more is read. The
-/// status is that of the text, if the reader has a byte model: of a log, and of a dump whose first
-/// byte is `$`. No clause states that of a dump with blanks before it, nor what is written.
+/// status is that of the text, a log or a dump, if the reader has a byte model. No clause states what
+/// is written.
 ///
 /// # Errors
 ///
@@ -44,7 +44,7 @@ pub fn judge_engine<'a, S: Source, W: Sink>(
     ensures write { W.is_marked writer.new ≡ is_write_end result }
     ensures log { IfSome (S.remaining trace.old) (λ text. is_log text ≡ true →
         IfOk result (IsStatusOf options.now boards.now text)) }
-    ensures dump { IfSome (S.remaining trace.old) (λ text. begins_dump text ≡ true →
+    ensures dump { IfSome (S.remaining trace.old) (λ text. is_log text ≡ false →
         IfOk result (IsDumpStatusOf options.now map.now boards.now text)) }
 {
     let mut run = Run::new(alloc, options, map, boards)?;

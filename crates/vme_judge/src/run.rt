@@ -1,15 +1,16 @@
 //! A trace, byte by byte.
-ghost use Rattle.std.specs.Prelude.{◌≡◌, ◌≢◌, ◌||◌, List, [], ◌∷◌, true, false, Some, None, replicate, is_some, IfOk};
+ghost use Rattle.std.specs.Prelude.{◌≡◌, ◌≢◌, ◌||◌, ℕ, List, [], ◌∷◌, ◌++◌, true, false, Some, None, replicate, is_some, IfOk};
 ghost use Rattle.vme_judge.specs.declared.run.Kind.TheVariants.{Dump, Unknown};
 ghost use Rattle.vme_judge.specs.declared.log.Taken.TheVariants.{Legal};
+ghost use Rattle.vme_bus_log.specs.declared.entry.LogEntry.TheVariants.{Nothing};
 ghost use Rattle.vme_bus_log.specs.Texts.{EndsNoLine};
 ghost use Rattle.vme_line_map.specs.Variables.{Map};
 ghost use Rattle.vme_vcd_reader.specs.Bodies.{Reading};
 ghost use Rattle.vme_vcd_reader.specs.Headers.{Heading, beginning};
 ghost use Rattle.vme_vcd_reader.specs.Mapping.{Declaration};
 ghost use Rattle.vme_vcd_reader.specs.Readers.{IsHeader, IsReading};
-ghost use Rattle.vme_judge.specs.DumpRuns.{dump_so_far, is_of_dump, EndsDump, EndsHeader, HasReached, Reached, TakesPiece};
-ghost use Rattle.vme_judge.specs.DumpTexts.{begins_dump};
+ghost use Rattle.vme_judge.specs.Blanks.{AreBlanks, IsBlankLine, IsBlankSoFar, SkipsBlanks, TakesBlanks, TakesFirst, TakesFurther};
+ghost use Rattle.vme_judge.specs.DumpRuns.{dump_so_far, EndsDump, EndsHeader, HasReached, Reached, TakesPiece};
 ghost use Rattle.vme_judge.specs.Dumps.{Legal as LegalDump};
 ghost use Rattle.vme_judge.specs.Logs.{is_broken};
 ghost use Rattle.vme_judge.specs.Logs.{Legal as LegalSoFar};
@@ -95,7 +96,11 @@ impl<'a> Run<'a> {
     pub(crate) fn push_all(&mut self, bytes: &[u8]) -> Result<bool, AllocError>
         ensures log { IfOk result (λ goes_on. is_no_dump (form_after self.old.kind bytes.now) ≡ true →
             TakesLog self.old self.new bytes.now goes_on) }
-        ensures dump { (map : Map) (reached : Reached) → is_of_dump self.old.kind bytes.now ≡ true →
+        ensures blanks { (map : Map) (line : List ℕ) → self.old.kind ≡ Unknown → AreBlanks bytes.now →
+            IsBlankSoFar map line self.old → IfOk result (TakesFurther map line self.old self.new bytes.now) }
+        ensures first { (map : Map) (line : List ℕ) → self.old.kind ≡ Unknown → form_after Unknown bytes.now ≡ Dump →
+            IsBlankSoFar map line self.old → IfOk result (TakesFirst map line self.old self.new bytes.now) }
+        ensures dump { (map : Map) (reached : Reached) → self.old.kind ≡ Dump →
             HasReached map reached self.old.vcd → IfOk result (TakesPiece map self.old self.new reached bytes.now) }
     {
         match self.kind {
@@ -109,8 +114,10 @@ impl<'a> Run<'a> {
     fn push_unknown(&mut self, bytes: &[u8]) -> Result<bool, AllocError>
         ensures log { IfOk result (λ goes_on. is_no_dump (form_after Unknown bytes.now) ≡ true →
             self.old.kind ≡ Unknown → TakesLog self.old self.new bytes.now goes_on) }
-        ensures dump { (map : Map) (reached : Reached) → begins_dump bytes.now ≡ true → HasReached map reached self.old.vcd →
-            IfOk result (TakesPiece map self.old self.new reached bytes.now) }
+        ensures blanks { (map : Map) (line : List ℕ) → AreBlanks bytes.now → IsBlankSoFar map line self.old →
+            IfOk result (TakesFurther map line self.old self.new bytes.now) }
+        ensures first { (map : Map) (line : List ℕ) → form_after Unknown bytes.now ≡ Dump → IsBlankSoFar map line self.old →
+            IfOk result (TakesFirst map line self.old self.new bytes.now) }
     {
         self.kind = form_of(bytes);
         match self.kind {
@@ -127,8 +134,10 @@ impl<'a> Run<'a> {
         ensures stops { IfOk result (λ goes_on. goes_on ≡ false → IsOver (run_so_far self.new)) }
         ensures once { IfOk result (λ goes_on. RunsOnce self.old self.new goes_on) }
         ensures kind { IfOk result (λ _. self.new.kind ≡ self.old.kind) }
+        ensures blanks { (map : Map) (line : List ℕ) → AreBlanks bytes.now → IsBlankSoFar map line self.old →
+            IfOk result (SkipsBlanks map line self.old self.new bytes.now) }
     {
-        skip_blanks(&mut self.vcd, bytes);
+        skip_blanks(&mut self.vcd, bytes)?;
         self.push_log_all(bytes)
     }
 
@@ -139,6 +148,9 @@ impl<'a> Run<'a> {
         ensures stops { IfOk result (λ goes_on. goes_on ≡ false → IsOver (run_so_far self.new)) }
         ensures once { IfOk result (λ goes_on. RunsOnce self.old self.new goes_on) }
         ensures kind { IfOk result (λ _. self.new.kind ≡ self.old.kind) }
+        ensures vcd { IfOk result (λ _. self.new.vcd ≡ self.old.vcd) }
+        ensures blanks { (line : List ℕ) → AreBlanks bytes.now → IsBlankLine line self.old.log →
+            IfOk result (TakesBlanks line self.old self.new bytes.now) }
     {
         let mut rest = bytes;
         while let Some((line, after)) = cut_line(rest) {
@@ -160,6 +172,9 @@ impl<'a> Run<'a> {
         ensures stops { IfOk result (λ goes_on. goes_on ≡ false → IsOver (run_so_far self.new)) }
         ensures once { IfOk result (λ goes_on. RunsOnce self.old self.new goes_on) }
         ensures kind { IfOk result (λ _. self.new.kind ≡ self.old.kind) }
+        ensures vcd { IfOk result (λ _. self.new.vcd ≡ self.old.vcd) }
+        ensures blanks { (begin : List ℕ) → AreBlanks line.now → IsBlankLine begin self.old.log →
+            IfOk result (TakesBlanks begin self.old self.new (line.now ++ 10 ∷ [])) }
     {
         let number = self.log.number();
         match self.log.end_with(line) {
@@ -191,6 +206,8 @@ impl<'a> Run<'a> {
         ensures once { IfOk result (λ goes_on. RunsOnce self.old self.new goes_on) }
         ensures log { IfOk result (λ _. self.new.log ≡ self.old.log) }
         ensures kind { IfOk result (λ _. self.new.kind ≡ self.old.kind) }
+        ensures vcd { IfOk result (λ _. self.new.vcd ≡ self.old.vcd) }
+        ensures nothing { entry.now ≡ Nothing → IfOk result (λ goes_on. (goes_on ≡ true) × (self.new ≡ self.old)) }
     {
         match entry {
             LogEntry::Nothing => Ok(true),
@@ -288,8 +305,14 @@ fn form_of(bytes: &[u8]) -> Kind
 }
 
 /// Takes blanks of a dump: one before its first word says nothing.
-fn skip_blanks(vcd: &mut VcdReader<'_>, blanks: &[u8]) {
+fn skip_blanks(vcd: &mut VcdReader<'_>, blanks: &[u8]) -> Result<(), AllocError>
+    ensures { (map : Map) → AreBlanks blanks.now → IsHeader map beginning [] vcd.old →
+        IfOk result (λ _. IsHeader map beginning [] vcd.new) }
+{
     for byte in blanks {
-        let _ = vcd.push(*byte);
+        let Ok(_step) = vcd.push(*byte) else {
+            return Err(AllocError);
+        };
     }
+    Ok(())
 }

@@ -1,7 +1,7 @@
 use Rattle.std.proofs.Common.{take, Ok, ap, ◌∙◌, rules, arith}
 use Rattle.std.proofs.lemmas.Grind.{common_steps}
 use Rattle.vme_judge.specs.declared.options.Options.{Options}
-use Rattle.vme_judge.proofs.DumpEnds.{dump_ends_at, dump_goes_on, dump_stops_at, some_taken}
+use Rattle.vme_judge.proofs.DumpEnds.{dump_ends_at, dump_goes_on, dump_stops_at, taken_any}
 use Rattle.vme_judge.proofs.DumpPieces.{dump_begins, dump_written}
 use Rattle.vme_judge.proofs.Ends.{ends_after, goes_on_after, stops_after}
 use Rattle.vme_judge.proofs.Pieces.{between_begins, between_written}
@@ -16,7 +16,7 @@ loop-piece-init g c = record {
       c.in_ok-run.ensures.line c.in_ok-run.ensures.kind;
   dump = dump_begins c.args.options.now c.args.map.now c.args.boards.now (g.S.Source.remaining c.args.trace.now) c.in_ok-run.run'
       c.in_ok-run.ensures.dump c.in_ok-run.ensures.going c.in_ok-run.ensures.options c.in_ok-run.ensures.found
-      c.in_ok-run.ensures.reader c.in_ok-run.ensures.kind;
+      c.in_ok-run.ensures.reader c.in_ok-run.ensures.line c.in_ok-run.ensures.kind;
 }
 
 pub returns-then-count-eq0-clause-log : goal.returns-then-count-eq0-clause-log
@@ -48,7 +48,8 @@ loop-piece-preserved g c = record {
       (dump_goes_on c.args.options.now c.args.map.now c.args.boards.now (g.S.Source.remaining c.args.trace.now)
       (g.S.Source.remaining c.loop-piece.trace) (g.S.Source.remaining c.read.new.self) c.loop-piece.run c.push_all.new.self _
       (take c.in-Ok.count c.read.new.buffer) _ c.loop-piece.invariant.dump c.in-Ok.ensures.bytes
-      (some_taken c.in-Ok.count c.read.new.buffer c.in-Ok.ensures.count c.if-count-eq0.false) (c.in_ok-push_all.ensures.dump c.args.map.now)
+      (taken_any c.args.map.now _ _ _ _ (c.in_ok-push_all.ensures.blanks c.args.map.now) (c.in_ok-push_all.ensures.first c.args.map.now)
+      (c.in_ok-push_all.ensures.dump c.args.map.now))
       (first_of (grind (arith, common_steps), search rules)) c.if-not-branch.false);
 }
 
@@ -64,5 +65,6 @@ returns-then-not-branch-clause-dump g c =
     dump_stops_at c.args.options.now c.args.map.now c.args.boards.now (g.S.Source.remaining c.args.trace.now)
     (g.S.Source.remaining c.loop-piece.trace) (g.S.Source.remaining c.read.new.self) c.loop-piece.run c.push_all.new.self _
     (take c.in-Ok.count c.read.new.buffer) _ c.written-then-not-branch.result c.loop-piece.invariant.dump c.in-Ok.ensures.bytes
-    (some_taken c.in-Ok.count c.read.new.buffer c.in-Ok.ensures.count c.if-count-eq0.false) (c.in_ok-push_all.ensures.dump c.args.map.now)
+    (taken_any c.args.map.now _ _ _ _ (c.in_ok-push_all.ensures.blanks c.args.map.now) (c.in_ok-push_all.ensures.first c.args.map.now)
+    (c.in_ok-push_all.ensures.dump c.args.map.now))
     (first_of (grind (arith, common_steps), search rules)) c.if-not-branch.true c.written-then-not-branch.ensures.dump

@@ -1,4 +1,4 @@
-use Rattle.vme_judge.proofs.DumpPieces.{piece_begins, piece_known, piece_none}
+use Rattle.vme_judge.proofs.DumpPieces.{piece_known}
 use Rattle.vme_judge.proofs.Pieces.{takes_any, takes_more, takes_none}
 use Rattle.vme_judge.proofs.run.Run.push_all.Goals as goal
 
@@ -18,14 +18,31 @@ pub returns-in-Unknown-clause-log : goal.returns-in-Unknown-clause-log
 returns-in-Unknown-clause-log c =
     takes_any c.args.self.now c.push_unknown.new.self c.args.bytes.now c.push_unknown.result c.push_unknown.ensures.log c.in-Unknown.is
 
+pub returns-in-Dump-clause-blanks : goal.returns-in-Dump-clause-blanks
+returns-in-Dump-clause-blanks c = λ map line unknown are is. absurd (cc (c.in-Dump.is, unknown))
+
+pub returns-in-Dump-clause-first : goal.returns-in-Dump-clause-first
+returns-in-Dump-clause-first c = λ map line unknown form is. absurd (cc (c.in-Dump.is, unknown))
+
 pub returns-in-Dump-clause-dump : goal.returns-in-Dump-clause-dump
-returns-in-Dump-clause-dump c = λ map reached of is.
+returns-in-Dump-clause-dump c = λ map reached dump is.
     piece_known map c.args.self.now c.push_dump_all.new.self reached c.args.bytes.now c.push_dump_all.result
     (c.push_dump_all.ensures.dump map reached is) c.push_dump_all.ensures.kind c.in-Dump.is
 
+pub returns-in-Log-clause-blanks : goal.returns-in-Log-clause-blanks
+returns-in-Log-clause-blanks c = λ map line unknown are is. absurd (cc (c.in-Log.is, unknown))
+
+pub returns-in-Log-clause-first : goal.returns-in-Log-clause-first
+returns-in-Log-clause-first c = λ map line unknown form is. absurd (cc (c.in-Log.is, unknown))
+
 pub returns-in-Log-clause-dump : goal.returns-in-Log-clause-dump
-returns-in-Log-clause-dump c = λ map reached of is. absurd (piece_none c.args.self.now.kind c.args.bytes.now c.in-Log.is of)
+returns-in-Log-clause-dump c = λ map reached dump is. absurd (cc (c.in-Log.is, dump))
+
+pub returns-in-Unknown-clause-blanks : goal.returns-in-Unknown-clause-blanks
+returns-in-Unknown-clause-blanks c = λ map line unknown are is. c.push_unknown.ensures.blanks map line are is
+
+pub returns-in-Unknown-clause-first : goal.returns-in-Unknown-clause-first
+returns-in-Unknown-clause-first c = λ map line unknown form is. c.push_unknown.ensures.first map line form is
 
 pub returns-in-Unknown-clause-dump : goal.returns-in-Unknown-clause-dump
-returns-in-Unknown-clause-dump c = λ map reached of is.
-    c.push_unknown.ensures.dump map reached (piece_begins c.args.self.now.kind c.args.bytes.now c.in-Unknown.is of) is
+returns-in-Unknown-clause-dump c = λ map reached dump is. absurd (cc (c.in-Unknown.is, dump))

@@ -3,6 +3,7 @@ use Rattle.vme_bus_log.specs.Texts.{Reading}
 use Rattle.vme_judge.specs.Runs.{run_so_far}
 use Rattle.vme_judge.proofs.Logs.{if_ok_both}
 use Rattle.vme_judge.proofs.Runs.{line_pushed, line_refused, is_over_rejected}
+use Rattle.vme_judge.proofs.Blanks.{line_skipped, blanks_refused}
 use Rattle.vme_judge.proofs.run.Run.push_line.Goals as goal
 
 pub returns-in-Ok-clause-judges : goal.returns-in-Ok-clause-judges
@@ -19,3 +20,13 @@ returns-in-Err-clause-judges c =
 
 pub returns-in-Err-clause-stops : goal.returns-in-Err-clause-stops
 returns-in-Err-clause-stops c = λ stopped. is_over_rejected c.reject.new.self c.reject.ensures.rejected
+
+pub returns-in-Ok-clause-blanks : goal.returns-in-Ok-clause-blanks
+returns-in-Ok-clause-blanks c = λ begin are is.
+    line_skipped c.args.self.now c.take_entry.new.self c.end_with.new.self begin c.args.line.now _ c.take_entry.result is are c.requires
+    c.in-Ok.ensures.ends (ap (λ (r : Reading). r.line) c.in-Ok.ensures.next) c.take_entry.ensures.nothing
+
+pub returns-in-Err-clause-blanks : goal.returns-in-Err-clause-blanks
+returns-in-Err-clause-blanks c = λ begin are is.
+    blanks_refused c.args.self.now c.reject.new.self begin c.args.line.now is are c.requires c.in-Err.ensures.ends c.reject.ensures.rejected
+    c.reject.ensures.judge c.reject.ensures.rest.4

@@ -1,5 +1,5 @@
 use Rattle.vme_judge.specs.Runs.{run_so_far}
-use Rattle.vme_judge.proofs.DumpPieces.{piece_first, piece_other}
+use Rattle.vme_judge.proofs.Blanks.{piece_first, piece_further, so_far_formed}
 use Rattle.vme_judge.proofs.Pieces.{takes_first}
 use Rattle.vme_judge.proofs.run.Run.push_unknown.Goals as goal
 
@@ -23,15 +23,26 @@ returns-in-Unknown-clause-log c =
       once = c.push_blanks.ensures.once;
     }) c.push_blanks.ensures.kind c.form_of-self.ensures
 
-pub returns-in-Dump-clause-dump : goal.returns-in-Dump-clause-dump
-returns-in-Dump-clause-dump c = λ map reached begins is.
-    piece_first map c.args.self.now c.begin_dump.new.self reached c.args.bytes.now c.form_of-self.result c.begin_dump.result
-    (c.begin_dump.ensures.dump map reached begins is) c.begin_dump.ensures.kind c.in-Dump.is
+pub returns-in-Dump-clause-blanks : goal.returns-in-Dump-clause-blanks
+returns-in-Dump-clause-blanks c = λ map line are is. absurd (cc (c.form_of-self.ensures, c.in-Dump.is, are))
 
-pub returns-in-Log-clause-dump : goal.returns-in-Log-clause-dump
-returns-in-Log-clause-dump c = λ map reached begins is.
-    absurd (piece_other c.args.bytes.now c.form_of-self.result begins c.form_of-self.ensures (λ dump. cc (c.in-Log.is, dump)))
+pub returns-in-Dump-clause-first : goal.returns-in-Dump-clause-first
+returns-in-Dump-clause-first c = λ map line form is.
+    piece_first map line c.args.self.now c.begin_dump.new.self c.args.bytes.now c.form_of-self.result c.begin_dump.result
+    (c.begin_dump.ensures.first map line form (so_far_formed map line c.args.self.now c.form_of-self.result is)) c.begin_dump.ensures.kind
+    c.in-Dump.is
 
-pub returns-in-Unknown-clause-dump : goal.returns-in-Unknown-clause-dump
-returns-in-Unknown-clause-dump c = λ map reached begins is.
-    absurd (piece_other c.args.bytes.now c.form_of-self.result begins c.form_of-self.ensures (λ dump. cc (c.in-Unknown.is, dump)))
+pub returns-in-Log-clause-blanks : goal.returns-in-Log-clause-blanks
+returns-in-Log-clause-blanks c = λ map line are is. absurd (cc (c.form_of-self.ensures, c.in-Log.is, are))
+
+pub returns-in-Log-clause-first : goal.returns-in-Log-clause-first
+returns-in-Log-clause-first c = λ map line form is. absurd (cc (c.form_of-self.ensures, c.in-Log.is, form))
+
+pub returns-in-Unknown-clause-blanks : goal.returns-in-Unknown-clause-blanks
+returns-in-Unknown-clause-blanks c = λ map line are is.
+    piece_further map line c.args.self.now c.push_blanks.new.self c.args.bytes.now c.form_of-self.result c.push_blanks.result
+    (c.push_blanks.ensures.blanks map line are (so_far_formed map line c.args.self.now c.form_of-self.result is)) c.push_blanks.ensures.kind
+    c.in-Unknown.is
+
+pub returns-in-Unknown-clause-first : goal.returns-in-Unknown-clause-first
+returns-in-Unknown-clause-first c = λ map line form is. absurd (cc (c.form_of-self.ensures, c.in-Unknown.is, form))
