@@ -1,9 +1,13 @@
 -- The edges at which WRITE* and the lines of address and data stand.
-use Rattle.std.proofs.Common.{◌≡◌, ℕ, Bool, true, false, nat_eq, not, ◌&&◌, ◌||◌, if◌then◌else◌, refl, ap, sym, subst, ◌∙◌, inl, inr}
+use Rattle.std.proofs.Common.{◌≡◌, ℕ, suc, List, Bool, true, false, nat_eq, not, ◌&&◌, ◌||◌, if◌then◌else◌, refl, ap, sym, subst, ◌∙◌, inl, inr}
 use Rattle.std.proofs.lemmas.Bool.{false≢true}
 use Rattle.std.proofs.lemmas.Bool.Decides.{eqb_tells}
+use Rattle.vme_script.specs.Configurations.{Configuration}
+use Rattle.vme_trace.specs.declared.observation.Observation.{Observation}
 use Rattle.vme_trace.specs.declared.dump.handshake.Handshake.{Handshake}
-use Rattle.vme_legal_traces.proofs.Standing.{IsStill, KeepsLevel}
+use Rattle.vme_trace_laws.proofs.lemmas.Waves.{HasTwo}
+use Rattle.vme_legal_traces.specs.Samples.{edge_sample}
+use Rattle.vme_legal_traces.proofs.Standing.{IsStill, KeepsLevel, two_write}
 use Rattle.vme_legal_traces.proofs.Stable.{one_known, two_known}
 
 -- one of two edges, or of others
@@ -49,6 +53,12 @@ early_level t early k begin second = record { begin = begin; second = second; en
 -- an edge at which it stands in a late handshake
 pub late_level : (u : Handshake) → u.late ≡ true → (k : ℕ) → nat_eq 0 k ≡ false → nat_eq 10 k ≡ false → nat_eq 19 k ≡ false → KeepsLevel u k
 late_level u late k begin second ended = record { begin = begin; second = second; ended = rw late ended }
+
+-- WRITE* stands at an edge of an event with two handshakes at which neither moves it
+pub two_steady : (config : Configuration) (events : List Observation) (o : Observation) (two : HasTwo o) (j : ℕ) → nat_eq 0 (suc j) ≡ false
+    → nat_eq 10 (suc j) ≡ false → nat_eq 19 (suc j) ≡ false → (edge_sample config events o (suc j)).write ≡ (edge_sample config events o j).write
+two_steady config events o two j begin second ended =
+    two_write config events o two j (early_level two.t two.early (suc j) begin second) (late_level two.u two.late (suc j) begin second ended)
 
 -- an edge at which the lines stand in an early handshake
 early_lines : (t : Handshake) → t.late ≡ false → (k : ℕ) → nat_eq 0 k ≡ false → nat_eq 10 k ≡ false → nat_eq 8 k ≡ false

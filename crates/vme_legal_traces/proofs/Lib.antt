@@ -29,5 +29,15 @@ mod Lines
 mod Addresses
 mod Shaken
 mod Unmoved
+mod Phased
+mod Located
+mod Fitting
+mod Opening
+mod Leveled
+mod Answering
+mod Halves
+mod Stages
+mod Comes
+mod Placed
 mod Whole
 mod Boards

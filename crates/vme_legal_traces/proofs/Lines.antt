@@ -17,7 +17,7 @@ use Rattle.vme_trace.specs.Slots.{ends_with, has_ended}
 use Rattle.vme_trace.specs.Events.{event_changes}
 use Rattle.vme_trace.specs.Shown.{value_after, value_at}
 use Rattle.vme_trace_laws.specs.Addresses.{CarriesNoData}
-use Rattle.vme_trace_laws.proofs.lemmas.Waves.{pulse, pulse_at, at_pulse, HasOne, HasTwo, IsCycleLine, one_parts, two_parts, modifier_after, address_after, long_word_after, other, last_other, own, last_own, silent, after_append, level_line, address_strobe_quiet, address_quiet, level_quiet, data_strobe_quiet, data_quiet, answer_quiet}
+use Rattle.vme_trace_laws.proofs.lemmas.Waves.{pulse, pulse_at, at_pulse, HasOne, HasTwo, IsCycleLine, one_parts, two_parts, modifier_after, address_after, long_word_after, write_after, other, last_other, own, last_own, silent, after_append, level_line, address_strobe_quiet, address_quiet, address_level_quiet, level_quiet, data_strobe_quiet, data_quiet, answer_quiet}
 use Rattle.vme_legal_traces.specs.Samples.{is_free, number_of, bit_of, lanes_of, data_number, free_lane, free_lanes, edge_sample, sample_of, value_shown}
 use Rattle.vme_legal_traces.proofs.Named.{Names}
 
@@ -39,9 +39,9 @@ late_driven false late k is soon = late_edge late 0 k is soon
 
 -- a line has a value from the begin of a handshake that begins a transfer until the address is released, and a late handshake does
 -- not move it before the second half of an event
-pub record IsAddressed (x : ℕ) (value : Handshake → Value) (rest : Value) : Type 0 where
+pub record IsAddressed (P : Handshake → Type 0) (x : ℕ) (value : Handshake → Value) (rest : Value) : Type 0 where
   pub line : IsCycleLine (bus_code x)
-  pub each : (k : ℕ) (t : Handshake) (v : Value) → CarriesNoData t
+  pub each : (k : ℕ) (t : Handshake) (v : Value) → P t
       → value_after (bus_code x) k (handshake_changes t) v ≡ pulse (value t) rest t.opens t.ends 0 (edge_of t 9) k v
   pub late : (k : ℕ) (u : Handshake) (v : Value) → u.opens ≡ false → u.late ≡ true → k < 10
       → value_after (bus_code x) k (handshake_changes u) v ≡ v
@@ -52,7 +52,7 @@ pulse_late false ends up k first later v none off = skip 0 k ends up later v off
 pulse_late true ends up k first later v none off = absurd cc
 
 -- AM5 to AM0
-pub modifier_line : IsAddressed 74 (λ t. Number 6 t.lines.am.code) Released
+pub modifier_line : IsAddressed CarriesNoData 74 (λ t. Number 6 t.lines.am.code) Released
 modifier_line = record {
   line = record { number = 74; is = refl; past = omega arith };
   each = λ k t v plain. modifier_after k t v;
@@ -76,7 +76,7 @@ address_late_own k u v none late soon =
     ∙ ap (λ (b : Bool). if b && nat_eq 0 k then Number 32 (address_number u.lines) else v) none))))))))
 
 -- A31 to A01
-pub address_line : IsAddressed 75 (λ t. Number 32 (address_number t.lines)) Released
+pub address_line : IsAddressed CarriesNoData 75 (λ t. Number 32 (address_number t.lines)) Released
 unfolding handshake_changes
 address_line = record {
   line = record { number = 75; is = refl; past = omega arith };
@@ -112,7 +112,7 @@ long_word_late_own k u v none late soon =
     ∙ ap (λ (b : Bool). if b && nat_eq 0 k then level_of u.lines.strobes.lword else v) none)))))))))
 
 -- LWORD*
-pub long_word_line : IsAddressed 76 (λ t. level_of t.lines.strobes.lword) Free
+pub long_word_line : IsAddressed CarriesNoData 76 (λ t. level_of t.lines.strobes.lword) Free
 unfolding handshake_changes
 long_word_line = record {
   line = record { number = 76; is = refl; past = omega arith };
@@ -126,6 +126,61 @@ long_word_line = record {
       ∙ (answer_quiet (bus_code 76) k u _ refl refl)))))
       ∙ long_word_late_own k u v none late soon;
 }
+
+-- WRITE* in a late handshake, by its own changes
+write_late_own : (k : ℕ) (u : Handshake) (v : Value) → u.opens ≡ false → u.late ≡ true → k < 10 → value_after (bus_code 77) k (level_changes u) v ≡ v
+unfolding level_changes
+write_late_own k u v none late soon =
+    silent (bus_code 77) k (level_line u 76 u.lines.strobes.lword (upper_number u.lines.lanes % 2 == 1)) _ v (address_level_quiet (bus_code 77) 76 k u _ _ v refl)
+    ∙ (own (bus_code 77) k u.opens 0 (level_of u.lines.write) _ v refl
+    ∙ (own (bus_code 77) k u.falls 10 Low _ _ refl
+    ∙ (last_own (bus_code 77) k u.ends (edge_of u 9) Free _ refl
+    ∙ (skip 77 k u.ends (edge_of u 9) Free _ (late_edge u.late 9 k late soon)
+    ∙ (skip 77 k u.falls 10 Low _ (ne_eqb 10 k (λ same. absurd (omega (arith, same, soon))))
+    ∙ ap (λ (b : Bool). if b && nat_eq 0 k then level_of u.lines.write else v) none)))))
+
+-- WRITE* does not fall in a handshake
+abbrev pub KeepsWrite : Handshake → Type 0
+KeepsWrite t = t.falls ≡ false
+
+-- WRITE*
+pub write_line : IsAddressed KeepsWrite 77 (λ t. level_of t.lines.write) Free
+unfolding handshake_changes
+write_line = record {
+  line = record { number = 77; is = refl; past = omega arith };
+  each = λ k t v still. write_after k t v still;
+  late = λ k u v none late soon.
+      silent (bus_code 77) k (address_strobe_changes u) _ v (address_strobe_quiet (bus_code 77) k u v refl refl)
+      ∙ (silent (bus_code 77) k (address_changes u) _ v (address_quiet (bus_code 77) k u v refl)
+      ∙ (after_append (bus_code 77) k (level_changes u) _ v
+      ∙ (silent (bus_code 77) k (data_strobe_changes u) _ _ (data_strobe_quiet (bus_code 77) k u _ refl refl)
+      ∙ (silent (bus_code 77) k (data_changes u) _ _ (data_quiet (bus_code 77) k u _ refl refl)
+      ∙ (answer_quiet (bus_code 77) k u _ refl refl)))))
+      ∙ write_late_own k u v none late soon;
+}
+
+-- WRITE* falls before the write half of a read-modify-write, by its own changes
+half_falls_own : (u : Handshake) (v : Value) → u.late ≡ true → u.falls ≡ true → value_after (bus_code 77) 10 (level_changes u) v ≡ Low
+unfolding level_changes
+half_falls_own u v late falls =
+    silent (bus_code 77) 10 (level_line u 76 u.lines.strobes.lword (upper_number u.lines.lanes % 2 == 1)) _ v (address_level_quiet (bus_code 77) 76 10 u _ _ v refl)
+    ∙ (own (bus_code 77) 10 u.opens 0 (level_of u.lines.write) _ v refl
+    ∙ (own (bus_code 77) 10 u.falls 10 Low _ _ refl
+    ∙ (last_own (bus_code 77) 10 u.ends (edge_of u 9) Free _ refl
+    ∙ (skip 77 10 u.ends (edge_of u 9) Free _ (ap (λ (b : Bool). nat_eq (if b then 10 + 9 else 1 + 9) 10) late)
+    ∙ ap (λ (b : Bool). if b && nat_eq 10 10 then Low else (if u.opens && nat_eq 0 10 then level_of u.lines.write else v)) falls))))
+
+-- WRITE* falls before the write half of a read-modify-write
+pub half_falls : (u : Handshake) (v : Value) → u.late ≡ true → u.falls ≡ true → value_after (bus_code 77) 10 (handshake_changes u) v ≡ Low
+unfolding handshake_changes
+half_falls u v late falls =
+    silent (bus_code 77) 10 (address_strobe_changes u) _ v (address_strobe_quiet (bus_code 77) 10 u v refl refl)
+    ∙ (silent (bus_code 77) 10 (address_changes u) _ v (address_quiet (bus_code 77) 10 u v refl)
+    ∙ (after_append (bus_code 77) 10 (level_changes u) _ v
+    ∙ (silent (bus_code 77) 10 (data_strobe_changes u) _ _ (data_strobe_quiet (bus_code 77) 10 u _ refl refl)
+    ∙ (silent (bus_code 77) 10 (data_changes u) _ _ (data_quiet (bus_code 77) 10 u _ refl refl)
+    ∙ (answer_quiet (bus_code 77) 10 u _ refl refl)))))
+    ∙ half_falls_own u v late falls
 
 -- a value that is not released
 early_value : (opens ends : Bool) (up k : ℕ) (first later v : Value) → not (ends && nat_le up k) ≡ true
@@ -185,9 +240,9 @@ two_ends o two =
     ap (λ (found : Option Handshake). ends_with found || ends_with (second_handshake o.activity o.reply)) two.first
     ∙ ap (λ (found : Option Handshake). two.t.ends || ends_with found) two.second ∙ ap (λ (b : Bool). b || two.u.ends) two.goes_on
 
-module _ (x : ℕ) (value : Handshake → Value) (rest : Value) (line : IsAddressed x value rest) (boards n : ℕ) (o : Observation) where
+module _ (P : Handshake → Type 0) (x : ℕ) (value : Handshake → Value) (rest : Value) (line : IsAddressed P x value rest) (boards n : ℕ) (o : Observation) where
   -- the line at an edge of an event with one handshake
-  pub one_value : (one : HasOne o) → CarriesNoData one.t → one.t.late ≡ false → (k : ℕ) → not (has_ended o && nat_le 10 k) ≡ true → (v : Value)
+  pub one_value : (one : HasOne o) → P one.t → one.t.late ≡ false → (k : ℕ) → not (has_ended o && nat_le 10 k) ≡ true → (v : Value)
       → value_at (bus_code x) (event_changes boards n o) v k ≡ (if one.t.opens then value one.t else v)
   one_value one plain early k soon v =
       let t = one.t in
@@ -197,7 +252,7 @@ module _ (x : ℕ) (value : Handshake → Value) (rest : Value) (line : IsAddres
       ∙ early_value t.opens t.ends 10 k (value t) rest v (ap (λ (b : Bool). not (b && nat_le 10 k)) (sym (one_ends o one)) ∙ soon)
 
   -- at an edge of an event with two, without data on it
-  pub two_value : (two : HasTwo o) → CarriesNoData two.t → CarriesNoData two.u → (k : ℕ) → not (has_ended o && nat_le 19 k) ≡ true → (v : Value)
+  pub two_value : (two : HasTwo o) → P two.t → P two.u → (k : ℕ) → not (has_ended o && nat_le 19 k) ≡ true → (v : Value)
       → value_at (bus_code x) (event_changes boards n o) v k ≡ (if two.t.opens then value two.t else v)
   two_value two plain plain' k soon v =
       let t = two.t in
@@ -214,7 +269,7 @@ module _ (x : ℕ) (value : Handshake → Value) (rest : Value) (line : IsAddres
       joined first second v opens ends opens_later ends_later up up_later k goes_on none edge = rw (goes_on, none, edge) refl
 
   -- the changes of an edge of the first half of an event with two
-  two_early : (two : HasTwo o) → CarriesNoData two.t → (k : ℕ) → k < 10 → (v : Value)
+  two_early : (two : HasTwo o) → P two.t → (k : ℕ) → k < 10 → (v : Value)
       → value_after (bus_code x) k (event_changes boards n o) v ≡ (if two.t.opens && nat_eq 0 k then value two.t else v)
   two_early two plain k soon v =
       let t = two.t in
@@ -225,7 +280,7 @@ module _ (x : ℕ) (value : Handshake → Value) (rest : Value) (line : IsAddres
       ∙ first_edge t.opens (value t) rest v (edge_of t 9) k
 
   -- at an edge of the first half of an event with two
-  pub two_begins : (two : HasTwo o) → CarriesNoData two.t → (k : ℕ) → k < 10 → (v : Value)
+  pub two_begins : (two : HasTwo o) → P two.t → (k : ℕ) → k < 10 → (v : Value)
       → value_at (bus_code x) (event_changes boards n o) v k ≡ (if two.t.opens then value two.t else v)
   unfolding value_at
   two_begins two plain zero soon v = two_early two plain 0 (omega arith) v ∙ zero_edge two.t.opens (value two.t) v

@@ -107,14 +107,18 @@ first_row d reply = by_phase (has_address_phase d) refl
     by_phase true is = rw is refl
     by_phase false is = rw is (after_row d.signals reply)
 
+-- the signals are those of the first cycle of a lawful transfer
+abbrev pub IsPlanned : SignalLines → Type 0
+IsPlanned s = (t : Transfer) × IsLawfulTransfer t × (s ≡ signals_of t 0)
+
 -- the transfer of a datum is lawful, if there is one
 abbrev IsLawfulDatum : Option DatumAt → Type 0
 IsLawfulDatum None = Unit {0}
 IsLawfulDatum (Some d) = IsLawfulTransfer d.transfer
 
--- the cycles of an activity have a code with a row
+-- the cycles of an activity have a code with a row, and one that no board answers is of a lawful transfer
 abbrev ActsRowed : Activity → Type 0
-ActsRowed (Releases (Some s)) = IsRowed s
+ActsRowed (Releases (Some s)) = IsRowed s × IsPlanned s
 ActsRowed (Transfers d) = IsRowed d.signals
 ActsRowed activity = Unit {0}
 
@@ -125,7 +129,7 @@ released_rowed (Some d) lawful = by_selected d.selected refl
   where
     by_selected : (selected : Bool) → d.selected ≡ selected → ActsRowed (Releases (if d.selected then None else Some (signals_of d.transfer 0)))
     by_selected true is = rw is tt
-    by_selected false is = rw is (signals_rowed d.transfer 0 lawful)
+    by_selected false is = rw is (signals_rowed d.transfer 0 lawful, (d.transfer, lawful, refl))
 
 -- what a call to a board shows
 board_rowed : (board : ℕ) (found : Option DatumAt) (cmd : Option BoardCmd) → IsLawfulDatum found → ActsRowed (board_activity board found cmd)
@@ -149,9 +153,11 @@ job_lawful map (Some t) is = by_job t.job is
     by_job (jobs.Bus job) is = is.0
     by_job (jobs.Local job) is = tt
 
--- the first handshake of an event has a code with a row
+-- the first handshake of an event has a code with a row, and a cycle that no board answers is of a lawful transfer
 abbrev pub BeginsRowed : Observation → Type 0
-BeginsRowed o = (t : Handshake) → first_handshake o.activity o.reply ≡ Some t → IsRowed t.lines
+BeginsRowed o =
+    ((t : Handshake) → first_handshake o.activity o.reply ≡ Some t → IsRowed t.lines)
+    × ((s : SignalLines) → o.activity ≡ Releases (Some s) → IsPlanned s)
 
 -- a handshake with a code
 row_is : (t : Handshake) (s : SignalLines) → t.lines.am ≡ s.am → IsRowed s → IsRowed t.lines
@@ -162,12 +168,16 @@ acts_first : (activity : Activity) (reply : EventReply) → ActsRowed activity �
 acts_first Requests reply acts t is = absurd (cc is)
 acts_first Polls reply acts t is = absurd (cc is)
 acts_first (Releases None) reply acts t is = absurd (cc is)
-acts_first (Releases (Some s)) reply acts t is = row_is t s (ap (λ (h : Handshake). h.lines.am) (sym (same_Some _ _ is))) acts
+acts_first (Releases (Some s)) reply acts t is = row_is t s (ap (λ (h : Handshake). h.lines.am) (sym (same_Some _ _ is))) acts.0
 acts_first (Transfers d) (replies.Board reply) acts t is =
     row_is t d.signals (ap (λ (h : Handshake). h.lines.am) (sym (same_Some _ _ is)) ∙ first_row d reply) acts
 acts_first (Transfers d) (replies.Bus reply) acts t is = absurd (cc is)
 acts_first (Local cmd) reply acts t is = absurd (cc is)
 acts_first Other reply acts t is = absurd (cc is)
+
+-- a cycle that no board answers is of a lawful transfer
+acts_planned : (activity : Activity) → ActsRowed activity → (s : SignalLines) → activity ≡ Releases (Some s) → IsPlanned s
+acts_planned activity acts s is = (subst ActsRowed is acts).1
 
 -- an event, if there is one, begins so
 abbrev FoundRowed : Option Observation → Type 0
@@ -188,7 +198,10 @@ module _ (config : Configuration) where
       → FoundRowed (observed_by config machine board (number, task) next)
   by_rowed machine board number task NotStarted lawful = tt
   by_rowed machine board number task (Invokes call) lawful =
-      acts_first (activity_of task call) (call_observed config machine board (number, task) call).reply (activity_rowed task call lawful)
+      let acts = activity_rowed task call lawful in (
+        acts_first (activity_of task call) (call_observed config machine board (number, task) call).reply acts,
+        acts_planned (activity_of task call) acts,
+      )
   by_rowed machine board number task (Returns reply) lawful = tt
 
   -- what the current line does next
@@ -245,7 +258,17 @@ module _ (config : Configuration) where
       (λ first last rest. from_rowed (before ++ slot ∷ []) slots (stepper_turn_at config stepper place) first last o
       (turn_more config stepper before slot place is refl) rest) whole
 
-  -- the code with which a transfer of a run begins has a row
-  pub run_rowed : (slots : List ℕ) (events later : List Observation) (o : Observation) → observations config slots ≡ events ++ o ∷ later → BeginsRowed o
+  -- each event of a run begins so
+  run_begins : (slots : List ℕ) (events later : List Observation) (o : Observation) → observations config slots ≡ events ++ o ∷ later → BeginsRowed o
   unfolding observations state_after
-  run_rowed slots events later o whole = from_rowed [] slots (stepper_of config (initial_state config)) events later o refl whole
+  run_begins slots events later o whole = from_rowed [] slots (stepper_of config (initial_state config)) events later o refl whole
+
+  -- the code with which a transfer of a run begins has a row
+  pub run_rowed : (slots : List ℕ) (events later : List Observation) (o : Observation) → observations config slots ≡ events ++ o ∷ later → (t : Handshake)
+      → first_handshake o.activity o.reply ≡ Some t → IsRowed t.lines
+  run_rowed slots events later o whole = (run_begins slots events later o whole).0
+
+  -- a cycle of a run that no board answers is of a lawful transfer
+  pub run_planned : (slots : List ℕ) (events later : List Observation) (o : Observation) → observations config slots ≡ events ++ o ∷ later → (s : SignalLines)
+      → o.activity ≡ Releases (Some s) → IsPlanned s
+  run_planned slots events later o whole = (run_begins slots events later o whole).1

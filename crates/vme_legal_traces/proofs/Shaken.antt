@@ -117,28 +117,28 @@ module _ (config : Configuration) where
     }
 
     -- at an edge of an event with one handshake
-    one_shows : (one : HasOne o) → CarriesNoData one.t → one.t.late ≡ false → HasAddress one.t → (k : ℕ) → not (has_ended o && nat_le 10 k) ≡ true → ShowsAt k
+    pub one_shows : (one : HasOne o) → CarriesNoData one.t → one.t.late ≡ false → HasAddress one.t → (k : ℕ) → not (has_ended o && nat_le 10 k) ≡ true → ShowsAt k
     one_shows one plain early has k soon =
         edge_shows one.t k has
-        (one_value 74 _ Released modifier_line (length config.boards) (length events + 1) o one plain early k soon)
-        (one_value 75 _ Released address_line (length config.boards) (length events + 1) o one plain early k soon)
-        (one_value 76 _ Free long_word_line (length config.boards) (length events + 1) o one plain early k soon)
+        (one_value CarriesNoData 74 _ Released modifier_line (length config.boards) (length events + 1) o one plain early k soon)
+        (one_value CarriesNoData 75 _ Released address_line (length config.boards) (length events + 1) o one plain early k soon)
+        (one_value CarriesNoData 76 _ Free long_word_line (length config.boards) (length events + 1) o one plain early k soon)
 
     -- at an edge of an event with two
     two_shows : (two : HasTwo o) → CarriesNoData two.t → CarriesNoData two.u → HasAddress two.t → (k : ℕ) → not (has_ended o && nat_le 19 k) ≡ true → ShowsAt k
     two_shows two plain plain' has k soon =
         edge_shows two.t k has
-        (two_value 74 _ Released modifier_line (length config.boards) (length events + 1) o two plain plain' k soon)
-        (two_value 75 _ Released address_line (length config.boards) (length events + 1) o two plain plain' k soon)
-        (two_value 76 _ Free long_word_line (length config.boards) (length events + 1) o two plain plain' k soon)
+        (two_value CarriesNoData 74 _ Released modifier_line (length config.boards) (length events + 1) o two plain plain' k soon)
+        (two_value CarriesNoData 75 _ Released address_line (length config.boards) (length events + 1) o two plain plain' k soon)
+        (two_value CarriesNoData 76 _ Free long_word_line (length config.boards) (length events + 1) o two plain plain' k soon)
 
     -- at an edge of the first half of one
-    two_shows_early : (two : HasTwo o) → CarriesNoData two.t → HasAddress two.t → (k : ℕ) → k < 10 → ShowsAt k
+    pub two_shows_early : (two : HasTwo o) → CarriesNoData two.t → HasAddress two.t → (k : ℕ) → k < 10 → ShowsAt k
     two_shows_early two plain has k soon =
         edge_shows two.t k has
-        (two_begins 74 _ Released modifier_line (length config.boards) (length events + 1) o two plain k soon)
-        (two_begins 75 _ Released address_line (length config.boards) (length events + 1) o two plain k soon)
-        (two_begins 76 _ Free long_word_line (length config.boards) (length events + 1) o two plain k soon)
+        (two_begins CarriesNoData 74 _ Released modifier_line (length config.boards) (length events + 1) o two plain k soon)
+        (two_begins CarriesNoData 75 _ Released address_line (length config.boards) (length events + 1) o two plain k soon)
+        (two_begins CarriesNoData 76 _ Free long_word_line (length config.boards) (length events + 1) o two plain k soon)
 
     -- what the handshakes of an event do with the address, of eight-byte data or not
     pub record IsShaken (wide : Bool) (t : Handshake) : Type 0 where

@@ -92,7 +92,7 @@ half_strobes s (Some f) Berr half is = absurd (cc is)
 half_strobes s None Berr half is = absurd (cc is)
 
 -- the first handshake of a datum has its strobes
-first_strobes : (d : TransferredDatum) (reply : Reply) → (first_of_datum d reply).lines.strobes ≡ d.signals.strobes
+pub first_strobes : (d : TransferredDatum) (reply : Reply) → (first_of_datum d reply).lines.strobes ≡ d.signals.strobes
 first_strobes d reply = by_phase (has_address_phase d) refl
   where
     by_phase : (phase : Bool) → has_address_phase d ≡ phase → (first_of_datum d reply).lines.strobes ≡ d.signals.strobes
@@ -100,7 +100,7 @@ first_strobes d reply = by_phase (has_address_phase d) refl
     by_phase false is = rw is (after_strobes d.signals reply)
 
 -- the second handshake of a datum has its strobes
-second_strobes : (d : TransferredDatum) (reply : Reply) (u : Handshake) → second_of_datum d reply ≡ Some u → u.lines.strobes ≡ d.signals.strobes
+pub second_strobes : (d : TransferredDatum) (reply : Reply) (u : Handshake) → second_of_datum d reply ≡ Some u → u.lines.strobes ≡ d.signals.strobes
 second_strobes d reply u is = by_phase (has_address_phase d) refl is
   where
     half : (found : Option SignalLines) → half_of d reply ≡ found → option_map half_handshake found ≡ Some u → u.lines.strobes ≡ d.signals.strobes

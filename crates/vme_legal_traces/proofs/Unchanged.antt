@@ -35,7 +35,7 @@ use Rattle.vme_legal_traces.proofs.Levels.{levels_of, before, ends_resting, none
 use Rattle.vme_legal_traces.proofs.Strobed.{run_strobed}
 use Rattle.vme_legal_traces.proofs.Standing.{write_zero, one_write, two_write, one_lines, two_lines}
 use Rattle.vme_legal_traces.proofs.Stable.{Known, stable, stable_keeps, none_known, one_known, two_known, none_stable, one_is, two_is}
-use Rattle.vme_legal_traces.proofs.Edges.{at_or, at_edge, either, both_of, early_level, late_level, one_levels_at, one_lines_at, two_levels_at, two_lines_at}
+use Rattle.vme_legal_traces.proofs.Edges.{two_steady, at_or, at_edge, either, both_of, one_levels_at, one_lines_at, two_levels_at, two_lines_at}
 use Rattle.vme_legal_traces.proofs.Written.{first_level, second_level, write_cycle, joined, run_high}
 use Rattle.vme_legal_traces.proofs.Steps.{value_next, regroup}
 
@@ -180,12 +180,7 @@ module _ (config : Configuration) (lawful : IsLawful config) (slots : List ℕ) 
     -- WRITE* stands from edge 0 to edge 4
     early_high_at : (two : HasTwo o) (k : ℕ) → two.t.lines.write ≡ true → (nat_eq k 3 || nat_eq k 4) ≡ true → (edge_sample config events o k).write ≡ true
     early_high_at two k read =
-        let t = two.t in
-        let u = two.u in
-        let step : (j : ℕ) → nat_eq 0 (suc j) ≡ false → nat_eq 10 (suc j) ≡ false → nat_eq 19 (suc j) ≡ false
-        → (edge_sample config events o (suc j)).write ≡ (edge_sample config events o j).write
-        = λ j begin second ended.
-        two_write config events o two j (early_level t two.early (suc j) begin second) (late_level u two.late (suc j) begin second ended) in
+        let step = two_steady config events o two in
         let three : (edge_sample config events o 3).write ≡ true
         = step 2 refl refl refl ∙ step 1 refl refl refl ∙ step 0 refl refl refl ∙ zero_high two read in
         at_or (λ j. (edge_sample config events o j).write ≡ true) 3 k _ three

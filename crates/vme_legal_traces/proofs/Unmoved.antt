@@ -1,6 +1,6 @@
 -- In our own traces the address stands from the sample before AS* falls, while AS* is low.
-use Rattle.std.proofs.Common.{◌≡◌, ℕ, ◌+◌, Bool, true, false, not, ◌||◌, if◌then◌else◌, List, [], ◌∷◌, ◌++◌, length, Option, Some, None, is_none, refl, ap, sym, subst, ◌∙◌, inl, inr}
-use Rattle.std.proofs.lemmas.Bool.{cases_Bool, false≢true}
+use Rattle.std.proofs.Common.{◌≡◌, ℕ, Bool, true, false, not, ◌||◌, if◌then◌else◌, List, [], ◌∷◌, ◌++◌, length, Option, Some, None, is_none, refl, ap, sym, subst, ◌∙◌, inl, inr}
+use Rattle.std.proofs.lemmas.Bool.{false≢true}
 use Rattle.std.proofs.lemmas.Option.{same_Some}
 use Rattle.vme_am.specs.Codes.{CodeRow}
 use Rattle.vme_cycle.specs.Lawful.{Transfer, IsLawfulTransfer}
@@ -32,7 +32,7 @@ use Rattle.vme_legal_traces.proofs.Levels.{levels_of, before, ends_resting, none
 use Rattle.vme_legal_traces.proofs.Named.{IsOf}
 use Rattle.vme_legal_traces.proofs.Addressed.{addressed, addressed_keeps, IsKnown, known_before, none_named, one_named, two_named, none_is, one_is, two_is}
 use Rattle.vme_legal_traces.proofs.Steps.{value_next}
-use Rattle.vme_legal_traces.proofs.Walked.{IsQuiet, IsAlone, IsDatum, View, rest_after, IsOpen, trace_walked}
+use Rattle.vme_legal_traces.proofs.Walked.{after_datum, IsQuiet, IsAlone, IsDatum, View, rest_after, IsOpen, trace_walked}
 use Rattle.vme_legal_traces.proofs.Addresses.{Address, address_of, top_of, no_address, same_address, first_address, first_plain, second_plain, alone_plain, wide_code, signals_row}
 use Rattle.vme_legal_traces.proofs.Shaken.{Shows, ShowsAt, IsShaken, none_of, both_hold, one_early, sample_names, shows_next, none_shows, one_names, two_names, shaken_next}
 
@@ -255,21 +255,14 @@ module _ (config : Configuration) (lawful : IsLawful config) (slots : List ℕ) 
         → ((rest_after config (events ++ o ∷ [])).strobe ≡ false → IsOf a.am (top_of a) w'.transfer × (t.am.wide ≡ true → w'.transfer.answered ≡ true))
         → Left next (events ++ o ∷ []) w'
     left_after w' left =
-        let one = open_at o.board t (datum.shown.number + 1) in
-        elim (cases_Bool (has_ended o)) [
-          | inl over ↦
-              let closed : next ≡ None = datum.is ∙ ap (λ (b : Bool). if b then None else Some one) over in
-              subst (λ (found : Option OpenTransfer). Left found (events ++ o ∷ []) w') (sym closed) tt
-          | inr goes ↦
-              let left_open : next ≡ Some one = datum.is ∙ ap (λ (b : Bool). if b then None else Some one) goes in
-              let own = left (strobe' ∙ ap (λ (found : Option OpenTransfer). is_none found) left_open) in
-              subst (λ (found : Option OpenTransfer). Left found (events ++ o ∷ []) w') (sym left_open) (record {
-                lawful_one = datum.shown.lawful;
-                own = own.0;
-                answered = own.1;
-                shows = λ narrow. shaken_next config events o a t.am.wide h datum.first datum_shaken narrow goes;
-              })
-        ]
+        after_datum config o going next datum (λ found. Left found (events ++ o ∷ []) w') tt λ goes same.
+        let own = left (strobe' ∙ ap (λ (found : Option OpenTransfer). is_none found) same) in
+        record {
+          lawful_one = datum.shown.lawful;
+          own = own.0;
+          answered = own.1;
+          shows = λ narrow. shaken_next config events o a t.am.wide h datum.first datum_shaken narrow goes;
+        }
 
     -- the event keeps J5
     datum_event : (samples : List Sample)

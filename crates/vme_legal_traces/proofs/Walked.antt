@@ -1,5 +1,5 @@
 -- The events of a run with the transfer that is open before and after each.
-use Rattle.std.proofs.Common.{◌≡◌, ℕ, ◌+◌, Bool, true, false, ◌||◌, if◌then◌else◌, List, [], ◌∷◌, ◌++◌, length, Option, Some, None, is_some, is_none, refl, ap, sym, ◌∙◌, inl, inr, ◌⊎◌}
+use Rattle.std.proofs.Common.{◌≡◌, ℕ, ◌+◌, Bool, true, false, ◌||◌, if◌then◌else◌, List, [], ◌∷◌, ◌++◌, length, Option, Some, None, is_some, is_none, refl, ap, sym, subst, ◌∙◌, inl, inr, ◌⊎◌}
 use Rattle.vme_cycle.specs.SignalLines.{SignalLines}
 use Rattle.vme_memory.specs.Steps.{Command}
 use Rattle.vme_memory.specs.declared.reply.Reply.{Reply}
@@ -45,6 +45,7 @@ pub record IsQuiet (o : Observation) (going next : Option OpenTransfer) : Type 0
 -- a cycle that no board answers comes while no transfer is open, and leaves none open
 pub record IsAlone (o : Observation) (going next : Option OpenTransfer) : Type 0 where
   pub signals : SignalLines
+  pub activity : o.activity ≡ Releases (Some signals)
   pub first : first_handshake o.activity o.reply ≡ Some (unanswered_handshake signals)
   pub second : second_handshake o.activity o.reply ≡ None
   pub free : going ≡ None
@@ -60,6 +61,21 @@ pub record IsDatum (config : Configuration) (o : Observation) (going next : Opti
   pub second : second_handshake o.activity o.reply ≡ second_of_datum datum reply
   pub was : going ≡ (if datum.first then None else Some (open_at o.board shown.transfer shown.number))
   pub is : next ≡ (if has_ended o then None else Some (open_at o.board shown.transfer (shown.number + 1)))
+
+-- what holds after a datum that ends the transfer, and after one that does not, with one datum more
+pub after_datum : (config : Configuration) (o : Observation) (going next : Option OpenTransfer) (datum : IsDatum config o going next)
+    → (P : Option OpenTransfer → Type 0) → P None
+    → (has_ended o ≡ false → next ≡ Some (open_at o.board datum.shown.transfer (datum.shown.number + 1))
+    → P (Some (open_at o.board datum.shown.transfer (datum.shown.number + 1)))) → P next
+after_datum config o going next datum P over goes_on = by_end (has_ended o) refl
+  where
+    one : OpenTransfer
+    one = open_at o.board datum.shown.transfer (datum.shown.number + 1)
+
+    by_end : (ended : Bool) → has_ended o ≡ ended → P next
+    by_end true ended = subst P (sym (datum.is ∙ ap (λ (b : Bool). if b then None else Some one) ended)) over
+    by_end false goes =
+        let same : next ≡ Some one = datum.is ∙ ap (λ (b : Bool). if b then None else Some one) goes in subst P (sym same) (goes_on goes same)
 
 -- what an event does to the open transfer
 abbrev pub View : Configuration → Observation → Option OpenTransfer → Option OpenTransfer → Type 0
@@ -97,6 +113,7 @@ module _ (config : Configuration) where
       let free : going ≡ None = none_open going (sym agrees ∙ opening (unanswered_handshake s) first) in
       inr (inl (record {
         signals = s;
+        activity = is;
         first = first;
         second = ap (λ (a : Activity). second_handshake a o.reply) is;
         free = free;

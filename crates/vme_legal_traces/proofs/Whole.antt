@@ -17,6 +17,7 @@ use Rattle.vme_legal_traces.proofs.Decided.{control_kept}
 use Rattle.vme_legal_traces.proofs.Coded.{trace_coded}
 use Rattle.vme_legal_traces.proofs.Unchanged.{trace_unchanged}
 use Rattle.vme_legal_traces.proofs.Unmoved.{trace_unmoved}
+use Rattle.vme_legal_traces.proofs.Placed.{trace_placed}
 use Rattle.vme_legal_traces.proofs.Granted.{trace_granted}
 use Rattle.vme_legal_traces.proofs.Timely.{trace_timely}
 
@@ -54,7 +55,7 @@ module _ (config : Configuration) (lawful : IsLawful config) (order : HasBoardsI
   each_kept rules.CodeUnknown = trace_coded config lawful slots timeout
   each_kept rules.AddressChanges = trace_unmoved config lawful slots timeout
   each_kept rules.DataChange = trace_unchanged config lawful slots timeout
-  each_kept rules.Transfer = others rules.Transfer refl
+  each_kept rules.Transfer = trace_placed config lawful slots timeout
   each_kept rules.PortUndefined = unbroken rules.PortUndefined (λ w s. refl) (strict_scope timeout) (trace_samples config slots)
   each_kept rules.BusError = unbroken rules.BusError (λ w s. refl) (strict_scope timeout) (trace_samples config slots)
   each_kept rules.NoBoard = unbroken rules.NoBoard (λ w s. refl) (strict_scope timeout) (trace_samples config slots)

@@ -6,7 +6,7 @@ ghost use Rattle.vme_script.specs.Lawful.{IsLawful};
 ghost use Rattle.vme_protocol.specs.declared.sample.Sample.{Sample};
 ghost use Rattle.vme_protocol.specs.declared.scope.Scope.{Scope};
 ghost use Rattle.vme_protocol.specs.declared.rule.Rule.{Rule};
-ghost use Rattle.vme_protocol.specs.declared.rule.Rule.TheVariants.{AddressChanges, CodeUnknown, DataChange, Grant, Timeout};
+ghost use Rattle.vme_protocol.specs.declared.rule.Rule.TheVariants.{AddressChanges, CodeUnknown, DataChange, Grant, Timeout, Transfer};
 ghost use Rattle.vme_protocol.specs.declared.verdict.Verdict.TheVariants.{Legal};
 ghost use Rattle.vme_protocol.specs.Verdicts.{verdict};
 ghost use Rattle.vme_legal_traces.specs.Samples.{trace_samples};
@@ -68,9 +68,18 @@ pub fn our_traces_keep_the_rule_of_data()
         IsTrue (keeps DataChange (strict_scope timeout) (trace_samples config slots)) }
 {}
 
+/// States that our own traces keep the rule of transfers, J13 (IEEE 1014-1987, 2.2.1, 2.3.7, 2.3.8): the strobes, A01
+/// and LWORD* select one of the ten byte locations; each datum of a block has the length, direction and unit of the
+/// first, at a multiple of its length; only a read-modify-write has a second cycle, which writes what the first read;
+/// and BERR* ends the transfer.
+pub fn our_traces_keep_the_rule_of_transfers()
+    ensures { (config : Configuration) (slots : List ℕ) (timeout : ℕ) → IsLawful config →
+        IsTrue (keeps Transfer (strict_scope timeout) (trace_samples config slots)) }
+{}
+
 /// States what is left of the law that our own traces are legal: the verdict on the trace of any turns of a
 /// lawful configuration, whose boards stand in order of slots, is legal in the strict mode if its samples
-/// keep J1 and J13.
+/// keep J1.
 pub fn our_traces_are_legal_if_their_transfers_are()
     ensures { (config : Configuration) (slots : List ℕ) (timeout : ℕ) → IsLawful config →
         HasBoardsInOrder config → 10 ≤ timeout →
