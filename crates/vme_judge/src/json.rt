@@ -1,8 +1,9 @@
 //! A finding and a verdict as JSON objects.
 use crate::counts::Counts;
 use crate::finding::Finding;
-use crate::message::{write_expected, write_help, write_title};
+use crate::message::{write_expected, write_help};
 use crate::shown::shown_lines;
+use crate::title::write_title;
 use crate::transfer::OpenTransfer;
 use std::alloc::{AllocError, Global};
 use std::fmt::Write;

@@ -21,6 +21,7 @@ mod resume;
 mod run;
 mod shown;
 mod tail;
+mod title;
 mod transfer;
 mod verdict;
 

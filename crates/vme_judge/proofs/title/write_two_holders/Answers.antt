@@ -1,5 +1,5 @@
 use Rattle.vme_judge.specs.Messages.{two_holders_text}
-use Rattle.vme_judge.proofs.message.write_two_holders.Goals as goal
+use Rattle.vme_judge.proofs.title.write_two_holders.Goals as goal
 
 pub returns : goal.returns
 unfolding two_holders_text

@@ -1,7 +1,7 @@
 use Rattle.std.specs.Prelude.{codes, string_bytes}
 use Rattle.vme_judge.specs.Messages.{known_text, memory_text}
 use Rattle.vme_judge.proofs.Appends.{appended}
-use Rattle.vme_judge.proofs.message.write_memory.Goals as goal
+use Rattle.vme_judge.proofs.title.write_memory.Goals as goal
 
 pub returns : goal.returns
 unfolding memory_text

@@ -1,7 +1,7 @@
 use Rattle.std.proofs.Common.{◌≡◌, ◌++◌, drop}
 use Rattle.std.specs.Prelude.{string_bytes}
 use Rattle.vme_judge.specs.Messages.{bytes_text}
-use Rattle.vme_judge.proofs.message.write_first.Given as goal
+use Rattle.vme_judge.proofs.title.write_first.Given as goal
 
 -- what is written, with the bytes that are left, is what is written in all
 abbrev pub invariant-loop-index : goal.invariant-loop-index

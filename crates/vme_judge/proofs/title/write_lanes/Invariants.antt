@@ -1,7 +1,7 @@
 use Rattle.std.proofs.Common.{◌≡◌, ◌++◌, drop}
 use Rattle.std.specs.Prelude.{string_bytes}
 use Rattle.vme_judge.specs.Messages.{lanes_text}
-use Rattle.vme_judge.proofs.message.write_lanes.Given as goal
+use Rattle.vme_judge.proofs.title.write_lanes.Given as goal
 
 -- what is written, with the bytes that are left, is what is written in all
 abbrev pub invariant-loop-index : goal.invariant-loop-index
