@@ -1,4 +1,7 @@
 //! A text as a JSON object.
+ghost use Rattle.std.specs.Prelude.{◌≡◌, ◌++◌, string_bytes, OnOk};
+ghost use Rattle.vme_explain.specs.Escapes.{control_escape, escaped, escaped_char};
+
 use crate::dump::BOARDS;
 use crate::entry::{Example, Input, Text};
 use std::alloc::AllocError;
@@ -76,18 +79,31 @@ fn quoted(text: &str, to: &mut String) -> Result<(), AllocError> {
 /// # Errors
 ///
 /// An allocation failed.
-pub fn write_escaped(text: &str, to: &mut String) -> Result<(), AllocError> {
+pub fn write_escaped(text: &str, to: &mut String) -> Result<(), AllocError>
+    ensures { OnOk result (string_bytes to.new ≡ string_bytes to.old ++ escaped text.now) }
+{
     for c in text.chars() {
-        match c {
-            '"' => to.push_str("\\\"")?,
-            '\\' => to.push_str("\\\\")?,
-            '\n' => to.push_str("\\n")?,
-            '\0'..='\x1f' => {
-                let code = u32::from(c);
-                write!(to, "\\u{code:04x}")?;
-            }
-            _ => to.push(c)?,
-        }
+        write_char(c, to)?;
     }
     Ok(())
+}
+
+/// Appends a character of a JSON string.
+fn write_char(c: char, to: &mut String) -> Result<(), AllocError>
+    ensures { OnOk result (string_bytes to.new ≡ string_bytes to.old ++ escaped_char c) }
+{
+    match c {
+        '"' => to.push_str("\\\""),
+        '\\' => to.push_str("\\\\"),
+        '\n' => to.push_str("\\n"),
+        '\0'..='\x1f' => write_control(u32::from(c), to),
+        _ => to.push(c),
+    }
+}
+
+/// Appends the escape of a control character.
+fn write_control(code: u32, to: &mut String) -> Result<(), AllocError>
+    ensures { OnOk result (string_bytes to.new ≡ string_bytes to.old ++ control_escape code) }
+{
+    write!(to, "\\u{code:04x}")
 }
