@@ -2,3 +2,4 @@ pub mod Words
 pub mod Fields
 pub mod Entries
 pub mod Texts
+pub mod FaultTexts

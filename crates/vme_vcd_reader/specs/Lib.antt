@@ -10,6 +10,7 @@ pub mod Bodies
 pub mod Openings
 pub mod Lines
 pub mod Faults
+pub mod FaultTexts
 pub mod Headers
 pub mod Headings
 pub mod Ranges

@@ -1,6 +1,7 @@
 //! Why a text is no dump in which the lines of a bus can be read.
 ghost use Rattle.std.specs.Prelude.{◌≡◌};
 ghost use Rattle.vme_vcd_reader.specs.declared.fault.VcdFault.TheVariants.{Memory};
+ghost use Rattle.vme_vcd_reader.specs.FaultTexts.{fault_text, wanted_of};
 
 use std::alloc::{AllocError, AllocFailed};
 
@@ -48,7 +49,9 @@ pub enum VcdFault {
 
 impl VcdFault {
     /// Returns what a program reports.
-    pub fn text(self) -> &'static str {
+    pub fn text(self) -> &'static str
+        ensures { result.now ≡ fault_text self }
+    {
         match self {
             VcdFault::NoKeyword => "no header of a dump: expected a keyword such as `$var`",
             VcdFault::WordTooLong => "a word of more than 255 bytes",
@@ -73,7 +76,9 @@ impl VcdFault {
     }
 
     /// Returns the index of the wanted variable that it is about.
-    pub fn wanted(self) -> Option<u16> {
+    pub fn wanted(self) -> Option<u16>
+        ensures { result ≡ wanted_of self }
+    {
         match self {
             VcdFault::Absent(index)
             | VcdFault::Ambiguous(index)
