@@ -1,4 +1,6 @@
 mod Appends
+mod Joins
+mod Names
 pub mod Samples
 pub mod Logs
 pub mod Runs

@@ -13,3 +13,7 @@ pub mod Blanks
 pub mod Expected
 pub mod Levels
 pub mod Messages
+pub mod JsonTexts
+pub mod RejectionTexts
+pub mod AssumedTexts
+pub mod VerdictTexts

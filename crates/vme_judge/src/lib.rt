@@ -2,6 +2,7 @@
 //! which it is not, with the rule that it breaks.
 #![tactic(auto)]
 
+mod assumed;
 mod boards;
 mod counts;
 mod dump;
@@ -19,6 +20,7 @@ mod options;
 mod rejection;
 mod resume;
 mod run;
+mod seen;
 mod shown;
 mod tail;
 mod title;

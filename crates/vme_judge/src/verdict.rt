@@ -1,12 +1,15 @@
 //! The text of a verdict.
-ghost use Rattle.std.specs.Prelude.{◌≡◌, ◌++◌, false, string_bytes, IfOk, OnOk};
+ghost use Rattle.std.specs.Prelude.{◌≡◌, ◌++◌, map, string_bytes, IfOk, OnOk};
+ghost use Rattle.vme_judge.specs.AssumedTexts.{ports_shown};
 ghost use Rattle.vme_judge.specs.DumpRuns.{dump_so_far};
 ghost use Rattle.vme_judge.specs.Dumps.{dump_status};
 ghost use Rattle.vme_judge.specs.Logs.{status_of};
-ghost use Rattle.vme_judge.specs.Messages.{message};
+ghost use Rattle.vme_judge.specs.RejectionTexts.{rejected_text};
 ghost use Rattle.vme_judge.specs.Runs.{run_so_far};
+ghost use Rattle.vme_judge.specs.VerdictTexts.{beside, comment, commented, ending_of, ending_status, finding_text, found_text, is_dump, last_finding, lists_text, rejection_of, rest_lines, rest_text, seen_text, text_by, verdict_name, verdict_text};
 
-use crate::dump::slots_of;
+use crate::assumed::assumed;
+use crate::counts::Counts;
 use crate::fault::Status;
 use crate::finding::Finding;
 use crate::json::{write_finding, write_verdict};
@@ -14,16 +17,19 @@ use crate::message::write_message;
 use crate::options::Options;
 use crate::rejection::{Rejection, Why};
 use crate::run::{Kind, Run};
-use crate::tail::{absent, assumed, write_counts, write_list, write_log_counts};
+use crate::seen::write_legal;
+use crate::tail::{absent, write_list};
 use std::alloc::{AllocError, Global};
 use std::fmt::Write;
 use vme_line_map::LineMap;
+use vme_vcd_reader::Presence;
 
 /// Appends the text of the end of a trace, and returns the status. Beside a bus log it is a comment.
 ///
 /// # Errors
 ///
 /// An allocation failed.
+#[tactic(auto, unfolding(crate::specs::VerdictTexts::verdict_text))]
 pub(crate) fn write_end(
     alloc: Global,
     run: &Run<'_>,
@@ -33,18 +39,22 @@ pub(crate) fn write_end(
 ) -> Result<Status, AllocError>
     ensures log { IfOk result (λ status. status ≡ status_of (run_so_far run.now)) }
     ensures dump { IfOk result (λ status. status ≡ dump_status (dump_so_far run.now)) }
+    ensures text { OnOk result (string_bytes to.new
+        ≡ string_bytes to.old ++ verdict_text options.now map.now run.now.judge.boards.now (ending_of run.now)) }
 {
+    let status = status_of(run);
     let mut text = String::new(alloc);
-    write_text(alloc, run, options, map, &mut text)?;
-    write_beside(options, text.as_str(), to)?;
-    Ok(status_of(run))
+    write_text(alloc, run, status, options, map, &mut text)?;
+    write_beside(options.log, &text, to)?;
+    Ok(status)
 }
 
 /// The verdict on what was read: something was found, nothing was judged, or the trace is legal.
-#[tactic(auto, unfolding(crate::specs::Runs::run_so_far, crate::specs::Standing::standing))]
+#[tactic(auto, unfolding(crate::specs::Runs::run_so_far, crate::specs::Standing::standing, crate::specs::VerdictTexts::ending_of))]
 fn status_of(run: &Run<'_>) -> Status
     ensures log { result ≡ status_of (run_so_far run.now) }
     ensures dump { result ≡ dump_status (dump_so_far run.now) }
+    ensures ending { result ≡ ending_status (ending_of run.now) }
 {
     if run.rejection.is_some() {
         return Status::Rejected;
@@ -62,14 +72,31 @@ fn status_of(run: &Run<'_>) -> Status
 }
 
 /// Appends lines, beside a bus log as comments.
-fn write_beside(options: &Options<'_>, text: &str, to: &mut String) -> Result<(), AllocError> {
-    if !options.log {
-        return to.push_str(text);
+fn write_beside(log: bool, text: &str, to: &mut String) -> Result<(), AllocError>
+    ensures { OnOk result (string_bytes to.new ≡ string_bytes to.old ++ beside log text.now) }
+{
+    if log {
+        write_commented(text, to)
+    } else {
+        to.push_str(text)
     }
+}
+
+/// Appends lines as comments of a log.
+fn write_commented(text: &str, to: &mut String) -> Result<(), AllocError>
+    ensures { OnOk result (string_bytes to.new ≡ string_bytes to.old ++ commented text.now) }
+{
     for line in text.lines() {
-        write!(to, "# {line}\n")?;
+        write_comment(line, to)?;
     }
     Ok(())
+}
+
+/// Appends a comment.
+fn write_comment(line: &str, to: &mut String) -> Result<(), AllocError>
+    ensures { OnOk result (string_bytes to.new ≡ string_bytes to.old ++ comment line.now) }
+{
+    write!(to, "# {line}\n")
 }
 
 /// Appends a finding after which the judgement goes on, unless nothing is to be printed.
@@ -82,35 +109,84 @@ pub(crate) fn write_found(
     options: &Options<'_>,
     finding: &Finding,
     to: &mut String,
-) -> Result<(), AllocError> {
+) -> Result<(), AllocError>
+    ensures { OnOk result (string_bytes to.new ≡ string_bytes to.old ++ found_text options.now finding.now) }
+{
     if options.quiet {
         return Ok(());
     }
     let mut text = String::new(alloc);
     write_one(alloc, options, finding, &mut text)?;
-    write_beside(options, text.as_str(), to)
+    write_beside(options.log, &text, to)
 }
 
-/// Appends the text.
+/// Appends the text of a verdict.
 fn write_text(
+    alloc: Global,
+    run: &Run<'_>,
+    status: Status,
+    options: &Options<'_>,
+    map: &LineMap,
+    to: &mut String,
+) -> Result<(), AllocError>
+    ensures { OnOk result (string_bytes to.new
+        ≡ string_bytes to.old ++ text_by options.now map.now run.now.judge.boards.now (ending_of run.now) status) }
+{
+    match status {
+        Status::Rejected => write_rejected(alloc, run, options, map, to),
+        Status::Illegal | Status::Legal => write_judged(alloc, run, status, options, to),
+    }
+}
+
+/// Appends why a trace is rejected: by default nothing in it is judged.
+#[tactic(auto, unfolding(crate::specs::VerdictTexts::ending_of))]
+fn write_rejected(
     alloc: Global,
     run: &Run<'_>,
     options: &Options<'_>,
     map: &LineMap,
     to: &mut String,
-) -> Result<(), AllocError> {
-    let status = status_of(run);
-    if status == Status::Rejected {
-        let rejection = run.rejection.unwrap_or(Rejection {
-            why: Why::Nothing,
-            line: None,
-        });
-        return rejection.write(alloc, options.name, map, options.json, to);
+) -> Result<(), AllocError>
+    ensures { OnOk result (string_bytes to.new ≡ string_bytes to.old
+        ++ rejected_text options.now.json options.now.name.now map.now (rejection_of (ending_of run.now).rejection)) }
+{
+    let rejection = run.rejection.unwrap_or(Rejection {
+        why: Why::Nothing,
+        line: None,
+    });
+    rejection.write(alloc, options.name, map, options.json, to)
+}
+
+/// Appends the last finding, and the rest.
+#[tactic(auto, unfolding(crate::specs::VerdictTexts::ending_of))]
+fn write_judged(
+    alloc: Global,
+    run: &Run<'_>,
+    status: Status,
+    options: &Options<'_>,
+    to: &mut String,
+) -> Result<(), AllocError>
+    ensures { OnOk result (string_bytes to.new ≡ string_bytes to.old
+        ++ (last_finding options.now (ending_of run.now).finding
+        ++ rest_text options.now run.now.judge.boards.now (ending_of run.now) status)) }
+{
+    write_last(alloc, options, &run.judge.finding, to)?;
+    write_rest(alloc, options, run, status, to)
+}
+
+/// Appends the finding at the end of a trace, if there is one.
+fn write_last(
+    alloc: Global,
+    options: &Options<'_>,
+    finding: &Option<Finding>,
+    to: &mut String,
+) -> Result<(), AllocError>
+    ensures { OnOk result (string_bytes to.new ≡ string_bytes to.old ++ last_finding options.now finding.now) }
+{
+    match finding {
+        Some(finding) => write_one(alloc, options, finding, to),
+        None => Ok(()),
     }
-    if let Some(finding) = &run.judge.finding {
-        write_one(alloc, options, finding, to)?;
-    }
-    write_rest(alloc, run, options, status, to)
 }
 
 /// Appends a finding.
@@ -120,8 +196,7 @@ fn write_one(
     finding: &Finding,
     to: &mut String,
 ) -> Result<(), AllocError>
-    ensures message { OnOk result (options.now.json ≡ false →
-        string_bytes to.new ≡ string_bytes to.old ++ message options.now.name.now finding.now) }
+    ensures { OnOk result (string_bytes to.new ≡ string_bytes to.old ++ finding_text options.now finding.now) }
 {
     if options.json {
         write_finding(alloc, options.name, finding, to)
@@ -131,76 +206,97 @@ fn write_one(
 }
 
 /// Appends what was seen of a legal trace, what it lacks and what is assumed.
+#[tactic(auto, unfolding(crate::specs::VerdictTexts::rest_text, crate::specs::VerdictTexts::ending_of))]
 fn write_rest(
     alloc: Global,
-    run: &Run<'_>,
     options: &Options<'_>,
+    run: &Run<'_>,
     status: Status,
     to: &mut String,
-) -> Result<(), AllocError> {
-    let slots = slots_of(run.judge.boards);
-    let is_dump = run.kind == Kind::Dump;
+) -> Result<(), AllocError>
+    ensures { OnOk result (string_bytes to.new
+        ≡ string_bytes to.old ++ rest_text options.now run.now.judge.boards.now (ending_of run.now) status) }
+{
+    let is_dump = is_dump(run.kind);
+    let is_within = run.judge.transfer.is_some() && is_dump;
     let presence = run.vcd.presence();
-    let absent = if is_dump {
-        absent(alloc, &presence, slots)?
-    } else {
-        Vec::new(alloc)
-    };
-    let ports = if is_dump { presence.ports } else { u32::MAX };
+    let absent = absent(alloc, is_dump, &presence, run.judge.boards)?;
+    let ports = ports_shown(is_dump, &presence);
     let assumed = assumed(alloc, options, run.judge.boards, ports)?;
-    let mut texts = Vec::new(alloc);
-    for text in assumed.iter() {
-        texts.push(text.as_str())?;
-    }
-    let ends_within = run.judge.transfer.is_some() && is_dump;
+    let counts = &run.judge.counts;
     if options.json {
-        let verdict = if status == Status::Legal {
-            "legal"
-        } else {
-            "illegal"
-        };
-        return write_verdict(
-            verdict,
-            &run.judge.counts,
-            ends_within,
-            absent.as_slice(),
-            texts.as_slice(),
-            to,
-        );
+        let verdict = verdict_name(status);
+        return write_verdict(verdict, counts, is_within, &absent, &assumed, to);
     }
-    if status == Status::Legal {
-        write_legal(run, is_dump, ends_within, to)?;
-    }
-    write_list(alloc, "not in the trace: ", absent.as_slice(), ", ", to)?;
-    write_list(alloc, "assumed: ", texts.as_slice(), "; ", to)
+    write_rest_lines(status, is_dump, is_within, counts, &absent, &assumed, to)
 }
 
-/// Appends what was seen of a legal trace.
-fn write_legal(
-    run: &Run<'_>,
+/// Appends what was seen of a legal trace, what it lacks and what is assumed, as text.
+fn write_rest_lines(
+    status: Status,
     is_dump: bool,
-    ends_within: bool,
+    is_within: bool,
+    counts: &Counts,
+    absent: &[String],
+    assumed: &[String],
     to: &mut String,
-) -> Result<(), AllocError> {
-    let counts = &run.judge.counts;
-    to.push_str("legal: ")?;
-    if is_dump {
-        write_counts(counts, to)?;
-    } else {
-        write_log_counts(counts, to)?;
+) -> Result<(), AllocError>
+    ensures { OnOk result (string_bytes to.new ≡ string_bytes to.old ++ rest_lines status is_dump is_within counts.now
+        (map string_bytes absent.now) (map string_bytes assumed.now)) }
+{
+    write_seen(status, is_dump, is_within, counts, to)?;
+    write_lists(absent, assumed, to)
+}
+
+/// Appends what a trace lacks, and what is assumed.
+fn write_lists(absent: &[String], assumed: &[String], to: &mut String) -> Result<(), AllocError>
+    ensures { OnOk result (string_bytes to.new
+        ≡ string_bytes to.old ++ lists_text (map string_bytes absent.now) (map string_bytes assumed.now)) }
+{
+    write_list("not in the trace: ", absent, ", ", to)?;
+    write_list("assumed: ", assumed, "; ", to)
+}
+
+/// Whether a trace is a dump.
+fn is_dump(kind: Kind) -> bool
+    ensures { result ≡ is_dump kind }
+{
+    match kind {
+        Kind::Dump => true,
+        Kind::Unknown | Kind::Log => false,
     }
-    if ends_within {
-        to.push_str("; it ends within a transfer")?;
+}
+
+/// The slots whose local ports a trace shows: those of a dump's lines, and all of a log.
+fn ports_shown(is_dump: bool, presence: &Presence) -> u32
+    ensures { result ≡ ports_shown is_dump presence.now }
+{
+    if is_dump { presence.ports } else { u32::MAX }
+}
+
+/// The word for a verdict.
+fn verdict_name(status: Status) -> &'static str
+    ensures { result.now ≡ verdict_name status }
+{
+    match status {
+        Status::Legal => "legal",
+        Status::Illegal | Status::Rejected => "illegal",
     }
-    to.push('\n')?;
-    if counts.skipped == 0 {
-        return Ok(());
+}
+
+/// Appends what was seen of a trace, if it is legal.
+fn write_seen(
+    status: Status,
+    is_dump: bool,
+    is_within: bool,
+    counts: &Counts,
+    to: &mut String,
+) -> Result<(), AllocError>
+    ensures { OnOk result (
+        string_bytes to.new ≡ string_bytes to.old ++ seen_text status is_dump is_within counts.now) }
+{
+    match status {
+        Status::Legal => write_legal(is_dump, is_within, counts, to),
+        Status::Illegal | Status::Rejected => Ok(()),
     }
-    let skipped = counts.skipped;
-    let what = if is_dump {
-        "samples before the first at rest"
-    } else {
-        "data of a transfer that began before"
-    };
-    write!(to, "skipped: {skipped} {what}\n")
 }
