@@ -1,4 +1,4 @@
-use Rattle.std.proofs.Common.{◌≡◌, ◌++◌, string_bytes, codes, arith}
+use Rattle.std.proofs.Common.{string_bytes, codes, arith}
 use Rattle.std.proofs.lemmas.Grind.{common_steps}
 use Rattle.vme_judge.specs.JsonTexts.{quoted, texts_json}
 use Rattle.vme_judge.proofs.Joins.{join_by-map}

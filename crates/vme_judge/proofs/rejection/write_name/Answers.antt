@@ -1,4 +1,4 @@
-use Rattle.std.proofs.Common.{◌≡◌, codes, string_bytes, arith}
+use Rattle.std.proofs.Common.{◌≡◌, codes, arith}
 use Rattle.std.proofs.lemmas.Grind.{common_steps}
 use Rattle.vme_judge.specs.RejectionTexts.{variable_name}
 use Rattle.vme_judge.proofs.Names.{named_as_is, named_by_mark}

@@ -1,4 +1,4 @@
-use Rattle.std.proofs.Common.{◌≡◌, ◌++◌, string_bytes, arith}
+use Rattle.std.proofs.Common.{string_bytes, arith}
 use Rattle.std.proofs.lemmas.Grind.{common_steps}
 use Rattle.vme_judge.proofs.Joins.{list_line-map}
 use Rattle.vme_judge.proofs.tail.write_list.Goals as goal
