@@ -9,3 +9,5 @@ pub mod ProcessorPasses
 pub mod Lines
 pub mod Runs
 pub mod Once
+pub mod ReadRuns
+pub mod ReadLines

@@ -86,13 +86,13 @@ answered_there config place line d e (Ok answer) there is = record { line = line
 answered_there config place line d e (Err spent) there is = tt
 
 -- the next call of a job's task is the next call of its line
-called : (next : NextStep Outcome) (call : Call) → Some call ≡ call_in next → transferring_next next ≡ Invokes call
+pub called : (next : NextStep Outcome) (call : Call) → Some call ≡ call_in next → transferring_next next ≡ Invokes call
 called NotStarted call is = absurd cc
 called (Invokes other) call is = cc
 called (Returns outcome) call is = absurd cc
 
 -- the outcome of a job's task is the reply to its line
-ended : (next : NextStep Outcome) (outcome : Outcome) → Some outcome ≡ result_in next
+pub ended : (next : NextStep Outcome) (outcome : Outcome) → Some outcome ≡ result_in next
     → transferring_next next ≡ Returns (Transfer outcome)
 ended NotStarted outcome is = absurd cc
 ended (Invokes call) outcome is = absurd cc

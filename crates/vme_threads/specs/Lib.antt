@@ -2,6 +2,8 @@ pub mod RunBuffers
 pub mod Settlements
 pub mod Ports
 pub mod ProcessorPasses
+pub mod ReadForms
+pub mod Reads
 pub mod Progress
 pub mod Rans
 pub mod Reports

@@ -22,6 +22,7 @@ ghost use Rattle.vme_threads.specs.Rans.{IsAnsweredBy, AddsLine};
 
 use crate::ports::Ports;
 use crate::processor_pass::{CallContext, ProcessorPass};
+use crate::read::ReadForm;
 use std::sync::Wait;
 use std::sync::atomic::Ordering;
 use vme_cycle::{Block, BlockBuffer, Request};
@@ -61,7 +62,11 @@ impl ProcessorPass {
     {
         match config.script(self.who).line(line) {
             Line::Local(cmd) if !is_cycle(cmd) => self.run_local(rt, ports, cmd),
-            Line::Bus(request) => self.run_transfer(rt, config, ports, request, buffer),
+            Line::Bus(request) => match ReadForm::of(request) {
+                Some(form) => self.run_bus_read(rt, config, ports, request, form, buffer),
+                None => self.run_transfer(rt, config, ports, request, buffer),
+            },
+            Line::Await { am, addr, bytes } => self.run_await(rt, config, ports, *am, *addr, bytes),
             _ => self.run_attempts(rt, config, ports, line, buffer),
         }
     }

@@ -118,7 +118,7 @@ impl ProcessorPass {
     /// # Errors
     /// `Spent` if the arbiter has made 2^64 - 1 steps.
     #[inline(always)]
-    fn try_bus(&mut self, ports: &Ports, cmd: &ArbCmd) -> Result<Option<ArbReply>, Spent>
+    pub(crate) fn try_bus(&mut self, ports: &Ports, cmd: &ArbCmd) -> Result<Option<ArbReply>, Spent>
         requires { MatchesPorts ports.now self.old }
         ensures made { IfOk result (λ tried. IfSome tried (λ reply.
             AddsTransitions (move self.old.who (events.Bus cmd.now) (replies.Bus reply) ∷ []) self.old self.new)) }
@@ -151,7 +151,7 @@ impl ProcessorPass {
     /// # Errors
     /// `Spent` if the board has made 2^64 - 1 steps.
     #[inline(always)]
-    fn try_board<A: Operation<ByteMemory>>(
+    pub(crate) fn try_board<A: Operation<ByteMemory>>(
         &mut self,
         ports: &Ports,
         board: usize,
@@ -247,7 +247,7 @@ impl ProcessorPass {
 
     /// Pauses before a further attempt, so that other processors get the bus, if there are any.
     /// `before` and `left` are the numbers of attempts that were left before and after an event.
-    fn pause(&self, backoff: &Backoff, before: u32, left: u32) {
+    pub(crate) fn pause(&self, backoff: &Backoff, before: u32, left: u32) {
         if self.boards > 1 && left < before {
             backoff.snooze();
         }
