@@ -3,6 +3,7 @@ ghost use Rattle.vme_answers.specs.Forgetting.{forgot};
 ghost use Rattle.vme_answers.specs.Selecting.{select, board_at};
 ghost use Rattle.vme_answers.specs.Starting.{started};
 ghost use Rattle.vme_answers.specs.Taking.{place, rested, half_after, half_torn, is_torn, read_taken, write_taken, taken_at, taken_in, taken_by, taken, local_taken_at, local_taken_in, local_taken};
+ghost use Rattle.vme_answers.specs.Wrongs.{local_wrong_of, wrong_at, wrong_by, wrong_of};
 
 use crate::board::{BoardRule, Half, Open, Row};
 use crate::bytes::{bytes_of, find_all, known_from, local_bytes, store_all};
@@ -78,9 +79,10 @@ impl Answers {
     /// # Errors
     ///
     /// It is not the answer of a board: J21 to J24.
-    #[tactic(auto, unfolding(crate::specs::Taking::taken))]
+    #[tactic(auto, unfolding(crate::specs::Taking::taken, crate::specs::Wrongs::wrong_of))]
     pub fn take(&mut self, datum: &Datum) -> Result<(), Wrong>
         ensures wrong { IfErr result (λ wrong. taken self.old datum.now ≡ Err wrong.rule) }
+        ensures shows { IfErr result (λ wrong. wrong ≡ wrong_of self.old datum.now wrong.rule) }
         ensures taken { IsOk result → taken self.old datum.now ≡ Ok self.new }
     {
         match self.select(datum) {
@@ -95,9 +97,10 @@ impl Answers {
     /// # Errors
     ///
     /// It finds other bytes than the memory may have: J23.
-    #[tactic(auto, unfolding(crate::specs::Taking::local_taken))]
+    #[tactic(auto, unfolding(crate::specs::Taking::local_taken, crate::specs::Wrongs::local_wrong_of))]
     pub fn take_local(&mut self, board: usize, access: &Local) -> Result<(), Wrong>
         ensures wrong { IfErr result (λ wrong. local_taken self.old board access.now ≡ Err wrong.rule) }
+        ensures shows { IfErr result (λ wrong. wrong ≡ local_wrong_of self.old board access.now wrong.rule) }
         ensures taken { IsOk result → local_taken self.old board access.now ≡ Ok self.new }
     {
         let row = match self.rows.get(board) {
@@ -164,6 +167,7 @@ impl Answers {
     /// Takes a datum that selects no board.
     fn take_elsewhere(&mut self, datum: &Datum) -> Result<(), Wrong>
         ensures wrong { IfErr result (λ wrong. taken_by self.old datum.now None ≡ Err wrong.rule) }
+        ensures shows { IfErr result (λ wrong. wrong ≡ wrong_by self.old wrong.rule datum.now None) }
         ensures taken { IsOk result → taken_by self.old datum.now None ≡ Ok self.new }
     {
         if datum.dtack || self.others {
@@ -183,6 +187,7 @@ impl Answers {
     fn take_in(&mut self, selected: &Selected, datum: &Datum) -> Result<(), Wrong>
         ensures wrong { IfErr result (λ wrong.
             taken_in self.old datum.now selected.now (place self.old selected.now datum.now.len) ≡ Err wrong.rule) }
+        ensures shows { IfErr result (λ wrong. wrong ≡ wrong_at self.old wrong.rule selected.now datum.now.len) }
         ensures taken { IsOk result →
             taken_in self.old datum.now selected.now (place self.old selected.now datum.now.len) ≡ Ok self.new }
     {
@@ -201,6 +206,7 @@ impl Answers {
     fn take_at(&mut self, selected: &Selected, at: usize, datum: &Datum) -> Result<(), Wrong>
         requires { at + datum.now.len ≤ length self.old.bytes }
         ensures wrong { IfErr result (λ wrong. taken_at self.old datum.now selected.now at ≡ Err wrong.rule) }
+        ensures shows { IfErr result (λ wrong. wrong ≡ wrong_at self.old wrong.rule selected.now datum.now.len) }
         ensures taken { IsOk result → taken_at self.old datum.now selected.now at ≡ Ok self.new }
     {
         let has_cycle = selected.has_cycle_of(datum);
@@ -226,6 +232,7 @@ impl Answers {
     fn take_read(&mut self, selected: &Selected, at: usize, datum: &Datum) -> Result<(), Wrong>
         requires { at + datum.now.len ≤ length self.old.bytes }
         ensures wrong { IfErr result (λ wrong. read_taken self.old datum.now selected.now at ≡ Err wrong.rule) }
+        ensures shows { IfErr result (λ wrong. wrong ≡ wrong_at self.old wrong.rule selected.now datum.now.len) }
         ensures taken { IsOk result → read_taken self.old datum.now selected.now at ≡ Ok self.new }
     {
         let wrong = self.wrong(Rule::WrongBytes, selected, datum.len);
@@ -242,6 +249,7 @@ impl Answers {
     fn take_write(&mut self, selected: &Selected, at: usize, datum: &Datum) -> Result<(), Wrong>
         requires { at + datum.now.len ≤ length self.old.bytes }
         ensures wrong { IfErr result (λ wrong. write_taken self.old datum.now at ≡ Err wrong.rule) }
+        ensures shows { IfErr result (λ wrong. wrong ≡ wrong_at self.old wrong.rule selected.now datum.now.len) }
         ensures taken { IsOk result → write_taken self.old datum.now at ≡ Ok self.new }
     {
         if is_second(datum) && is_torn(self.half) {
@@ -258,6 +266,7 @@ impl Answers {
     fn take_local_at(&mut self, selected: &Selected, at: usize, access: &Local) -> Result<(), Wrong>
         requires { at + access.now.len ≤ length self.old.bytes }
         ensures wrong { IfErr result (λ wrong. local_taken_at self.old access.now selected.now at ≡ Err wrong.rule) }
+        ensures shows { IfErr result (λ wrong. wrong ≡ wrong_at self.old wrong.rule selected.now access.now.len) }
         ensures taken { IsOk result → local_taken_at self.old access.now selected.now at ≡ Ok self.new }
     {
         let wrong = self.wrong(Rule::WrongBytes, selected, access.len);
@@ -275,7 +284,7 @@ impl Answers {
 
     /// Why an answer is not that of a board.
     fn wrong(&self, rule: Rule, selected: &Selected, len: u8) -> Wrong
-        ensures { result.rule ≡ rule }
+        ensures { result ≡ wrong_at self.now rule selected.now len }
     {
         let at = selected.row.start.saturating_add(selected.offset as usize);
         Wrong {

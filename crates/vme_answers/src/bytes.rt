@@ -1,6 +1,7 @@
 //! The bytes of a datum or a local access, and what is known of them.
 ghost use Rattle.std.specs.Prelude.{◌≡◌, ◌+◌, ◌≤◌, length, IsTrue};
 ghost use Rattle.vme_known.specs.Judging.{may_all_come};
+ghost use Rattle.vme_answers.specs.Wrongs.{known_at, known_from};
 ghost use Rattle.vme_answers.specs.Bytes.{finds, stores, all_after, all_forgotten, bytes_of, local_bytes};
 
 use vme_known::{Byte, KnownBytes};
@@ -79,16 +80,32 @@ pub(crate) fn forget_all(known: &mut KnownBytes, at: usize, count: usize)
 }
 
 /// What is known of some bytes from a place on; nothing of those that are not there.
-pub(crate) fn known_from(known: &KnownBytes, at: usize, len: u8) -> [Option<u8>; 8] {
-    let mut all = [None; 8];
-    for (i, value) in all.iter_mut().enumerate() {
-        let place = at.saturating_add(i);
-        if i < usize::from(len)
-            && place < known.len()
-            && let Byte::Known(byte) = known.get(place)
-        {
-            *value = Some(byte);
-        }
+#[tactic(auto, unfolding(crate::specs::Wrongs::known_from))]
+pub(crate) fn known_from(known: &KnownBytes, at: usize, len: u8) -> [Option<u8>; 8]
+    ensures { result ≡ known_from known.now at len }
+{
+    [
+        known_at(known, at, len, 0),
+        known_at(known, at, len, 1),
+        known_at(known, at, len, 2),
+        known_at(known, at, len, 3),
+        known_at(known, at, len, 4),
+        known_at(known, at, len, 5),
+        known_at(known, at, len, 6),
+        known_at(known, at, len, 7),
+    ]
+}
+
+/// What is known of a byte by its index among some bytes from a place on.
+fn known_at(known: &KnownBytes, at: usize, len: u8, index: u8) -> Option<u8>
+    ensures { result ≡ known_at known.now at len index }
+{
+    let place = at.saturating_add(usize::from(index));
+    if index >= len || place >= known.len() {
+        return None;
     }
-    all
+    match known.get(place) {
+        Byte::Known(byte) => Some(byte),
+        Byte::Open | Byte::Unseen => None,
+    }
 }
