@@ -1,5 +1,5 @@
 -- A run that takes the blanks before a trace.
-use Rattle.std.proofs.Common.{◌≡◌, ℕ, ◌+◌, ◌<◌, Bool, true, false, ◌==◌, ◌||◌, nat_le, nat_lt, zero, suc, inl, inr, List, [], ◌∷◌, ◌++◌, append_assoc, map, drop, take, length, length-append, get_or, slice_get, arith, eqb-true, le-leb, subst, Option, Some, None, IsSome, is_some, Result, Ok, Err, IfOk, refl, ap, sym, ◌∙◌}
+use Rattle.std.proofs.Common.{◌≡◌, ℕ, ◌+◌, ◌<◌, Bool, true, false, ◌==◌, ◌||◌, nat_le, nat_lt, zero, suc, inl, inr, List, [], ◌∷◌, ◌++◌, append_assoc, map, drop, take, length, length-append, get_or, slice_get, arith, eqb-true, le-leb, subst, Option, Some, None, is_some, Result, Ok, Err, IfOk, refl, ap, sym, ◌∙◌}
 use Rattle.std.specs.Prelude.{if◌then◌else◌}
 use Rattle.std.specs.declared.alloc.AllocError.{AllocError}
 use Rattle.std.proofs.lemmas.Bool.{false≢true, lt-leb}
@@ -24,11 +24,11 @@ use Rattle.vme_judge.specs.declared.run.Kind.{Kind}
 use Rattle.vme_judge.specs.declared.run.Kind.TheVariants as kinds
 use Rattle.vme_judge.specs.declared.run.Run.{Run}
 use Rattle.vme_judge.specs.Blanks.{AreBlanks, BeginsDump, IsBlankLine, IsBlankSoFar, ReadsBlanks, SkipsBlanks, TakesBlanks, TakesFirst, TakesFurther, blanks_whole}
-use Rattle.vme_judge.specs.DumpRuns.{InHeader, IsDumpJudgedAs, TakesDump, dump_at, dump_so_far, text_whole}
+use Rattle.vme_judge.specs.DumpRuns.{InHeader, IsDumpJudgedAs, TakesDump, dump_at, dump_so_far, placeless, text_whole}
 use Rattle.vme_judge.specs.Dumps.{DumpSoFar, Broken}
 use Rattle.vme_judge.specs.DumpTexts.{has_long_blanks, header_judged}
 use Rattle.vme_judge.specs.Runs.{form_after, IsGoing, IsOnceRun}
-use Rattle.vme_judge.specs.Standing.{standing, IsOnce}
+use Rattle.vme_judge.specs.Standing.{standing, IsOnce, IsStanding}
 use Rattle.vme_judge.specs.Verdicts.{is_space}
 use Rattle.vme_judge.proofs.BlankLines.{blank_first, blanks_on, blanks_parts, blanks_say, dump_blank, long_ended, long_more}
 use Rattle.vme_judge.proofs.DumpRuns.{rejected_is, rejects_once}
@@ -242,9 +242,9 @@ header_blanks o map d ds (b ∷ blanks) rest are =
 -- a run that has taken blanks has judged nothing
 pub same_dump : (old new : Run) → new.judge ≡ old.judge → new.ports ≡ old.ports → new.rejection ≡ old.rejection → dump_so_far new ≡ dump_so_far old
 same_dump old new judge ports rejection =
-    ap (λ (r : Option Rejection). dump_at (is_some r) (standing new.judge) new.ports.last) rejection
-    ∙ ap (λ (j : Judge). dump_at (is_some old.rejection) (standing j) new.ports.last) judge
-    ∙ ap (λ (p : Ports). dump_at (is_some old.rejection) (standing old.judge) p.last) ports
+    ap (λ (r : Option Rejection). dump_at (is_some r) (placeless new.judge) new.ports.last) rejection
+    ∙ ap (λ (j : Judge). dump_at (is_some old.rejection) (placeless j) new.ports.last) judge
+    ∙ ap (λ (p : Ports). dump_at (is_some old.rejection) (placeless old.judge) p.last) ports
 
 -- the whole header does not depend on them
 text_same : (map : Map) (old new : Run) (rest : List ℕ) → new.judge ≡ old.judge → new.ports ≡ old.ports → new.rejection ≡ old.rejection
@@ -289,7 +289,7 @@ module _ (map : Map) (line : List ℕ) (old mid new : Run) (bytes blanks text : 
   going_on skips once going =
       let reads = skips.reads refl in (
         (subst IsOnce (sym skips.judge) once.0, λ none. reads.rejection ∙ going.1),
-        (subst (λ (j : Judge). IsSome (standing j)) (sym skips.judge) going.0, reads.rejection ∙ going.1),
+        (subst (λ (j : Judge). IsStanding (standing j)) (sym skips.judge) going.0, reads.rejection ∙ going.1),
       )
 
   -- the first bytes of a dump
@@ -305,8 +305,8 @@ module _ (map : Map) (line : List ℕ) (old mid new : Run) (bytes blanks text : 
           judges = λ rest. whole_then skips are first parts rest ∙ reads.judges rest;
         };
     stops = λ off rest.
-        subst (λ d. IsDumpJudgedAs d (dump_so_far new) (standing new.judge)) (sym (whole_then skips are first parts rest)) (takes.stops off rest);
-    stays = λ none. takes.stays (ap standing skips.judge ∙ none);
+        subst (λ d. IsDumpJudgedAs d (dump_so_far new) (placeless new.judge)) (sym (whole_then skips are first parts rest)) (takes.stops off rest);
+    stays = λ found fell. takes.stays found (ap (λ j. placeless j) skips.judge ∙ fell);
     once = λ once going. let had = going_on skips once going in takes.once had.0 had.1;
   }
 
@@ -334,7 +334,7 @@ dump_barred map line old new bytes blanks text on off takes parts =
           (stops.lines (text ++ rest))
           )
           );
-      stays = λ none. ap standing takes.judge ∙ none;
+      stays = λ found fell. ap (λ j. placeless j) takes.judge ∙ fell;
       once = λ once going. (rejects_once old new takes.judge once going, λ on. absurd (false≢true on));
     }
 

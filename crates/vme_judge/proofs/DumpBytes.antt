@@ -11,10 +11,9 @@ use Rattle.vme_vcd_reader.specs.Bodies.{Reading, Shown, before, byte_taken, samp
 use Rattle.vme_vcd_reader.specs.Lines.{bytes_taken, list_of, shown_first}
 use Rattle.vme_vcd_reader.specs.Readers.{IsBrokenText, IsReading, ReportsSample, TakesLine, rows_of}
 use Rattle.vme_judge.specs.declared.run.Run.{Run}
-use Rattle.vme_judge.specs.DumpRuns.{HasReached, InBody, InHeader, IsDumpJudgedAs, IsUnjudged, JudgesDump, Reached, ReadsOn, TakesDump, TakesNext, dump_so_far, text_whole}
+use Rattle.vme_judge.specs.DumpRuns.{DumpStays, HasReached, InBody, InHeader, IsDumpJudgedAs, IsUnjudged, JudgesDump, Reached, ReadsOn, TakesDump, TakesNext, dump_so_far, placeless, text_whole}
 use Rattle.vme_judge.specs.Dumps.{DumpSoFar}
-use Rattle.vme_judge.specs.Runs.{IsGoing, IsOnceRun, StaysFound}
-use Rattle.vme_judge.specs.Standing.{standing}
+use Rattle.vme_judge.specs.Runs.{IsGoing, IsOnceRun}
 use Rattle.vme_judge.proofs.DumpRuns.{all_before, bytes_judged, bytes_rejected, first_before, first_reading, one_before, samples_first}
 
 -- a run has judged bytes of a dump up to those that are left
@@ -51,7 +50,7 @@ reads_more map old mid new reached bytes left line rest to is on = record {
 pub stops_at : (map : Map) (old mid new : Run) (reached : Reached) (bytes left line rest : List ℕ) (to : ReadsTo map old mid reached bytes left) → left ≡ line ++ rest
     → ((more : List ℕ) → JudgesDump map mid new to.after (line ++ more)) → (more : List ℕ) → JudgesDump map old new reached (bytes ++ more)
 stops_at map old mid new reached bytes left line rest to is stops more =
-    subst (λ d. IsDumpJudgedAs d (dump_so_far new) (standing new.judge))
+    subst (λ d. IsDumpJudgedAs d (dump_so_far new) (placeless new.judge))
     (sym (
     to.judges more
     ∙ ap (λ left. text_whole map mid to.after (left ++ more)) is
@@ -172,18 +171,18 @@ text_rejected map old new (InBody r) text result is body broken stops rejected j
 
 module _ (map : Map) (first mid new : Run) (reached : Reached) (bytes left line rest : List ℕ) (goes_on : Bool) (to : ReadsTo map first mid reached bytes left) where
   -- a run that stops at some of the bytes that are left
-  pub dump_stops : StaysFound first mid → (IsOnceRun first → IsGoing first → IsOnceRun mid × IsGoing mid) → left ≡ line ++ rest
+  pub dump_stops : DumpStays first mid → (IsOnceRun first → IsGoing first → IsOnceRun mid × IsGoing mid) → left ≡ line ++ rest
       → TakesDump map mid new to.after line goes_on → goes_on ≡ false → TakesDump map first new reached bytes false
   dump_stops stays once is takes off = record {
     reads = λ on. absurd (false≢true on);
     stops = λ same. stops_at map first mid new reached bytes left line rest to is (takes.stops off);
-    stays = λ none. takes.stays (stays none);
+    stays = λ found fell. takes.stays found (stays found fell);
     once = λ one going. let had = once one going in ((takes.once had.0 had.1).0, λ on. absurd (false≢true on));
   }
 
 -- a run that rejects the bytes that are left
 pub dump_refused : (map : Map) (first mid new : Run) (reached : Reached) (bytes left : List ℕ) (result : Result Bool AllocError) (to : ReadsTo map first mid reached bytes left)
-    → StaysFound first mid → (IsOnceRun first → IsGoing first → IsOnceRun mid × IsGoing mid) → IfOk result (TakesDump map mid new to.after left)
+    → DumpStays first mid → (IsOnceRun first → IsGoing first → IsOnceRun mid × IsGoing mid) → IfOk result (TakesDump map mid new to.after left)
     → IfOk result (λ goes_on. goes_on ≡ false) → IfOk result (TakesDump map first new reached bytes)
 dump_refused map first mid new reached bytes left (Err fault) to stays once takes off = tt
 dump_refused map first mid new reached bytes left (Ok true) to stays once takes off = absurd (cc off)
@@ -198,21 +197,46 @@ line_left text line rest step all is some left = omega (arith, length-append lin
 -- a run that goes on after a line of the bytes that are left
 pub record GoesOver (map : Map) (first new : Run) (reached : Reached) (bytes rest : List ℕ) (step : ℕ) : Type 0 where
   pub reads : ReadsTo map first new reached bytes rest
-  pub stays : StaysFound first new
+  pub stays : DumpStays first new
   pub once : IsOnceRun first → IsGoing first → IsOnceRun new × IsGoing new
   pub left : length rest + step ≤ length bytes
 
 module _ (map : Map) (first mid new : Run) (reached : Reached) (bytes text line rest : List ℕ) (step : ℕ) (goes_on : Bool) (to : ReadsTo map first mid reached bytes text) where
   -- the same, from what was judged before the line
-  pub line_over : StaysFound first mid → (IsOnceRun first → IsGoing first → IsOnceRun mid × IsGoing mid) → length text + step ≤ length bytes
+  pub line_over : DumpStays first mid → (IsOnceRun first → IsGoing first → IsOnceRun mid × IsGoing mid) → length text + step ≤ length bytes
       → text ≡ line ++ rest → 0 < length line → TakesDump map mid new to.after line goes_on → goes_on ≡ true
       → GoesOver map first new reached bytes rest (step + 1)
   line_over stays once left is some takes on = record {
     reads = reads_more map first mid new reached bytes text line rest to is (takes.reads on);
-    stays = λ none. takes.stays (stays none);
+    stays = λ found fell. takes.stays found (stays found fell);
     once = λ one going.
         let had = once one going in
         let now = takes.once had.0 had.1 in
         (now.0, now.1 on);
     left = line_left text line rest step (length bytes) is some left;
   }
+
+-- a run that goes on after the first of the bytes that are left
+pub byte_over : (map : Map) (first mid new : Run) (reached : Reached) (bytes text tail : List ℕ) (step : ℕ) (goes_on : Bool)
+    (to : ReadsTo map first mid reached bytes text) → DumpStays first mid → (IsOnceRun first → IsGoing first → IsOnceRun mid × IsGoing mid)
+    → length text + step ≤ length bytes → 1 ≤ length text → tail ≡ drop 1 text
+    → TakesDump map mid new to.after (slice_index text 0 ∷ []) goes_on → goes_on ≡ true → GoesOver map first new reached bytes tail (step + 1)
+byte_over map first mid new reached bytes text tail step goes_on to stays once left some is takes on =
+    subst (λ rest. GoesOver map first new reached bytes rest (step + 1)) (sym is)
+    (line_over map first mid new reached bytes text (slice_index text 0 ∷ []) (drop 1 text) step goes_on to stays once left
+    (first_byte text some) (omega arith) takes on)
+
+-- no bytes are left
+empty : (left : List ℕ) → length left < 1 → left ≡ []
+empty [] none = refl
+empty (b ∷ bs) none = absurd (grind arith)
+
+-- a run that has taken all bytes of a dump
+pub dump_read : (map : Map) (old new : Run) (reached : Reached) (bytes left : List ℕ) → ReadsTo map old new reached bytes left → DumpStays old new
+    → (IsOnceRun old → IsGoing old → IsOnceRun new × IsGoing new) → length left < 1 → TakesDump map old new reached bytes true
+dump_read map old new reached bytes left to stays once none = record {
+  reads = λ on. reads_all map old new reached bytes left to (empty left none);
+  stops = λ off. absurd (false≢true (sym off));
+  stays = stays;
+  once = λ one going. let had = once one going in (had.0, λ on. had.1);
+}

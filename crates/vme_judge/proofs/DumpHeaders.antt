@@ -1,7 +1,7 @@
 -- The header of a dump, byte by byte, and the body after it.
-use Rattle.std.proofs.Common.{◌≡◌, ◌≢◌, ℕ, Bool, true, false, ◌==◌, ◌||◌, inl, inr, List, [], ◌∷◌, ◌++◌, subst, Option, Some, None, IsSome, is_some, Result, Ok, Err, IfOk, Bor, refl, ap, sym, ◌∙◌}
+use Rattle.std.proofs.Common.{◌≡◌, ◌≢◌, ℕ, Bool, true, false, ◌==◌, ◌||◌, inl, inr, List, [], ◌∷◌, ◌++◌, subst, Option, Some, None, is_some, Result, Ok, Err, IfOk, Bor, refl, ap, sym, ◌∙◌}
 use Rattle.std.specs.Prelude.{if◌then◌else◌}
-use Rattle.std.specs.Option.{option_and_then, option_map}
+use Rattle.std.specs.Option.{option_and_then}
 use Rattle.std.specs.declared.alloc.AllocError.{AllocError}
 use Rattle.vme_line_map.specs.Variables.{Map}
 use Rattle.vme_protocol.specs.declared.port.Port.{Port}
@@ -30,11 +30,11 @@ use Rattle.vme_judge.specs.declared.dump.Ports.{Ports}
 use Rattle.vme_judge.specs.declared.options.Options.{Options}
 use Rattle.vme_judge.specs.declared.rejection.Rejection.{Rejection}
 use Rattle.vme_judge.specs.declared.run.Run.{Run}
-use Rattle.vme_judge.specs.DumpRuns.{BeginsBody, EndsHeader, IsDumpJudgedAs, InHeader, InBody, TakesDump, TakesLast, TakesNext, dump_at, dump_so_far, dump_whole, text_whole}
+use Rattle.vme_judge.specs.DumpRuns.{BeginsBody, EndsHeader, IsDumpJudgedAs, InHeader, InBody, TakesDump, TakesLast, TakesNext, dump_at, dump_so_far, dump_whole, placeless, placeless_of, text_whole}
 use Rattle.vme_judge.specs.Dumps.{DumpSoFar, Broken, broken_off, dump_taken, with_presence}
 use Rattle.vme_judge.specs.DumpTexts.{body_judged, headed, header_judged, rows_with}
 use Rattle.vme_judge.specs.Runs.{RunsOnce}
-use Rattle.vme_judge.specs.Standing.{Standing, standing}
+use Rattle.vme_judge.specs.Standing.{Course, Falls, Found, IsStanding, Stands, course_map, standing}
 use Rattle.vme_judge.proofs.DumpRuns.{dump_rejected, rejected_is, rejects_once}
 
 -- variables with other links
@@ -87,22 +87,22 @@ samples_relinked rows (b ∷ bs) (Some taken) =
     (samples_relinked rows bs (byte_taken (relinked rows) taken.0 b) ∙ ap (λ o. samples_by rows o bs) (byte_relinked rows taken.0 b))
 
 -- a dump at the end of its header, by whether it is rejected
-headed_at : (p : Presence) (rejected : Bool) (m : Option Standing) (ports : List (Option Port))
-    → dump_at rejected (option_map (with_presence p) m) ports ≡ headed p (dump_at rejected m ports)
-headed_at p true m ports = refl
-headed_at p false None ports = refl
-headed_at p false (Some m) ports = refl
+headed_at : (p : Presence) (rejected : Bool) (c : Course) (ports : List (Option Port))
+    → dump_at rejected (placeless_of (course_map (with_presence p) c)) ports ≡ headed p (dump_at rejected (placeless_of c) ports)
+headed_at p true c ports = refl
+headed_at p false (Falls found) ports = refl
+headed_at p false (Stands m) ports = refl
 
 module _ (old new : Run) (v : VcdReader) (lines : List (ℕ × Mapped)) (goes_on : Bool) where
   -- a run that begins with a body, by the lines of its header
   headed_is : v.presence ≡ presence_of lines → BeginsBody (record old { vcd = v }) new goes_on
       → dump_so_far new ≡ headed (presence_of lines) (dump_so_far old)
   headed_is presence begins =
-      ap (λ (r : Option Rejection). dump_at (is_some r) (standing new.judge) new.ports.last) begins.rejection
-      ∙ ap (λ m. dump_at (is_some old.rejection) m new.ports.last) begins.judged
-      ∙ ap (λ (ports : Ports). dump_at (is_some old.rejection) (option_map (with_presence v.presence) (standing old.judge)) ports.last)
+      ap (λ (r : Option Rejection). dump_at (is_some r) (placeless new.judge) new.ports.last) begins.rejection
+      ∙ ap (λ c. dump_at (is_some old.rejection) (placeless_of c) new.ports.last) begins.judged
+      ∙ ap (λ (ports : Ports). dump_at (is_some old.rejection) (placeless_of (course_map (with_presence v.presence) (standing old.judge))) ports.last)
       begins.ports
-      ∙ ap (λ p. dump_at (is_some old.rejection) (option_map (with_presence p) (standing old.judge)) old.ports.last) presence
+      ∙ ap (λ p. dump_at (is_some old.rejection) (placeless_of (course_map (with_presence p) (standing old.judge))) old.ports.last) presence
       ∙ headed_at (presence_of lines) (is_some old.rejection) (standing old.judge) old.ports.last
 
   -- the samples of its body
@@ -125,16 +125,22 @@ module _ (old new : Run) (v : VcdReader) (lines : List (ℕ × Mapped)) (goes_on
       ∙ ap (λ (o : Bor Options). dump_taken o.now (dump_so_far new) (samples_of (rows_of new.vcd) (opening_of (presence_of lines).busy) rest))
       (sym begins.options)
 
--- what is remembered is there with the lines of the header too
-some_headed : (p : Presence) (m : Option Standing) → IsSome m → IsSome (option_map (with_presence p) m)
-some_headed p (Some m) some = refl
-some_headed p None some = absurd (cc some)
+-- a trace stands with the lines of the header too
+stands_headed : (p : Presence) (c : Course) → IsStanding c → IsStanding (course_map (with_presence p) c)
+stands_headed p (Stands m) stood = refl
+stands_headed p (Falls found) stood = absurd (cc stood)
+
+-- what was found is found with the lines of the header too
+fell_headed : (p : Presence) (c n : Course) (found : Option Found) → n ≡ course_map (with_presence p) c → placeless_of c ≡ Falls found
+    → placeless_of n ≡ Falls found
+fell_headed p (Stands m) n found is fell = absurd (cc fell)
+fell_headed p (Falls other) n found is fell = ap placeless_of is ∙ fell
 
 -- a run for one finding that begins with a body
 begins_once : (old new : Run) (v : VcdReader) (goes_on : Bool) → BeginsBody (record old { vcd = v }) new goes_on → RunsOnce old new goes_on
 begins_once old new v goes_on begins = λ once going. (
   ((ap (λ (o : Bor Options). o.now.limit) begins.options ∙ once.0.0, begins.found ∙ once.0.1), λ none. begins.rejection ∙ going.1),
-  λ on. (subst IsSome (sym begins.judged) (some_headed v.presence (standing old.judge) going.0), begins.rejection ∙ going.1),
+  λ on. (subst IsStanding (sym begins.judged) (stands_headed v.presence (standing old.judge) going.0), begins.rejection ∙ going.1),
 )
 
 -- a header that declares a variable goes on with it
@@ -185,7 +191,7 @@ module _ (map : Map) (old new : Run) (v : VcdReader) (h : Heading) (ds : List De
           ∙ body_begun old new v lines goes_on rest enters.0 enters.1 begins;
     };
     stops = λ off. absurd (cc (off, begins.goes));
-    stays = λ none. begins.judged ∙ ap (option_map (with_presence v.presence)) none;
+    stays = λ found. fell_headed v.presence (standing old.judge) (standing new.judge) found begins.judged;
     once = begins_once old new v goes_on begins;
   }
 
@@ -207,19 +213,19 @@ heading_by map old new v h ds byte step Ends goes_on is takes sample begins more
 heading_by map old new v h ds byte step (Rejects fault) goes_on is takes sample begins more = absurd takes
 
 -- a dump that is rejected within its header
-broken_header : (rejected : Bool) (m n : Option Standing) (ports : List (Option Port)) → n ≡ m
-    → IsDumpJudgedAs (broken_off (dump_at rejected m ports)) Broken n
-broken_header true m n ports same = inl refl
-broken_header false None n ports same = inr (refl, same)
-broken_header false (Some m) n ports same = inl refl
+broken_header : (rejected : Bool) (c n : Course) (ports : List (Option Port)) → n ≡ c
+    → IsDumpJudgedAs (broken_off (dump_at rejected c ports)) Broken n
+broken_header true c n ports same = inl refl
+broken_header false (Falls found) n ports same = inr (found, refl, same)
+broken_header false (Stands m) n ports same = inl refl
 
 -- a run that rejects a header
 header_rejected : (old new : Run) (whole : DumpSoFar) → whole ≡ broken_off (dump_so_far old) → is_some new.rejection ≡ true
-    → new.judge ≡ old.judge → IsDumpJudgedAs whole (dump_so_far new) (standing new.judge)
+    → new.judge ≡ old.judge → IsDumpJudgedAs whole (dump_so_far new) (placeless new.judge)
 header_rejected old new whole is rejected judge =
-    subst (λ whole. IsDumpJudgedAs whole (dump_so_far new) (standing new.judge)) (sym is)
-    (subst (λ d. IsDumpJudgedAs (broken_off (dump_so_far old)) d (standing new.judge)) (sym (rejected_is new rejected))
-    (broken_header (is_some old.rejection) (standing old.judge) (standing new.judge) old.ports.last (ap standing judge)))
+    subst (λ whole. IsDumpJudgedAs whole (dump_so_far new) (placeless new.judge)) (sym is)
+    (subst (λ d. IsDumpJudgedAs (broken_off (dump_so_far old)) d (placeless new.judge)) (sym (rejected_is new rejected))
+    (broken_header (is_some old.rejection) (placeless old.judge) (placeless new.judge) old.ports.last (ap (λ j. placeless j) judge)))
 
 -- why a header is rejected: whatever follows, the text is no dump
 broken_by : (o : Options) (map : Map) (d : DumpSoFar) (ds : List Declaration) (out : Outcome) (fault : VcdFault) (rest : List ℕ)
@@ -265,6 +271,6 @@ header_ended old new v (Ok value) takes = record {
 pub header_refused : (old new : Run) → is_some new.rejection ≡ true → new.judge ≡ old.judge → EndsHeader old new
 header_refused old new rejected judge = record {
   dump = inr (rejected_is new rejected);
-  stays = λ none. ap standing judge ∙ none;
+  stays = λ found fell. ap (λ j. placeless j) judge ∙ fell;
   once = rejects_once old new judge;
 }

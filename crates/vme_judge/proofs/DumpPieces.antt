@@ -21,15 +21,16 @@ use Rattle.vme_judge.specs.declared.run.Kind.{Kind}
 use Rattle.vme_judge.specs.declared.run.Kind.TheVariants as kinds
 use Rattle.vme_judge.specs.declared.run.Run.{Run}
 use Rattle.vme_judge.specs.Blanks.{AreBlanks, IsBlankSoFar, TakesFirst, TakesFurther, blanks_whole}
-use Rattle.vme_judge.specs.DumpRuns.{EndsDump, EndsHeader, HasReached, InBody, InHeader, IsDumpJudgedAs, IsUnjudged, Reached, TakesDump, TakesPiece, dump_at, dump_so_far, text_whole}
-use Rattle.vme_judge.specs.Dumps.{DumpSoFar, Legal, Illegal, Broken, broken_off, dump_status}
+use Rattle.vme_judge.specs.DumpRuns.{EndsDump, EndsHeader, HasReached, InBody, InHeader, IsDumpJudgedAs, IsUnjudged, Reached, TakesDump, TakesPiece, dump_at, dump_so_far, placeless, text_whole}
+use Rattle.vme_judge.specs.Dumps.{DumpSoFar, Legal, Illegal, Broken, broken_off, dump_status, is_illegal}
 use Rattle.vme_judge.specs.DumpTexts.{IsDumpStatusOf, dump_of, has_long_blanks, header_judged}
 use Rattle.vme_judge.specs.Openings.{opening}
 use Rattle.vme_judge.specs.Runs.{IsGoing, IsOnceRun, form_after, is_no_dump}
-use Rattle.vme_judge.specs.Standing.{Standing, standing}
+use Rattle.vme_judge.specs.Standing.{Course, Falls, Found, standing, stands}
 use Rattle.vme_judge.specs.Verdicts.{is_log}
 use Rattle.vme_judge.proofs.Blanks.{fresh, going_on, same_dump, whole_on}
 use Rattle.vme_judge.proofs.DumpRuns.{rejected_is}
+use Rattle.vme_judge.proofs.Dumps.{placeless_stands}
 use Rattle.vme_judge.proofs.Pieces.{form_on, log_form}
 
 -- bytes of a dump whose form was known
@@ -233,34 +234,40 @@ dump_more o map boards (Some text) (Some rest) (Some next) run new piece between
     read_at o map boards run new text rest piece next (between dump) is takes
 
 -- the status of a dump of which something was found, where more may be asked for
-found_status : (limit : ℕ) (dump : DumpSoFar) (rejected : Bool) (status : Status) → limit ≢ 1 → dump ≡ Illegal
-    → status ≡ dump_status (dump_at rejected None []) → (status ≡ dump_status dump) ⊎ ((limit ≢ 1) × (dump ≡ Illegal) × (status ≡ statuses.Rejected))
-found_status limit dump true status more illegal is = inr (more, illegal, is)
-found_status limit dump false status more illegal is = inl (is ∙ sym (ap dump_status illegal))
+found_status : (limit : ℕ) (dump : DumpSoFar) (found : Option Found) (rejected : Bool) (status : Status) → limit ≢ 1 → dump ≡ Illegal found
+    → status ≡ dump_status (dump_at rejected (Falls found) [])
+    → (status ≡ dump_status dump) ⊎ ((limit ≢ 1) × (is_illegal dump ≡ true) × (status ≡ statuses.Rejected))
+found_status limit dump found true status more illegal is = inr (more, ap is_illegal illegal, is)
+found_status limit dump found false status more illegal is = inl (is ∙ sym (ap dump_status illegal))
+
+-- the status of a dump, by whether it is rejected
+any_ports : (rejected : Bool) (found : Option Found) (ports : List (Option Port))
+    → dump_status (dump_at rejected (Falls found) ports) ≡ dump_status (dump_at rejected (Falls found) [])
+any_ports true found ports = refl
+any_ports false found ports = refl
 
 -- the status of a dump of which something was found does not depend on its ports
-found_any : (rejected : Bool) (m : Option Standing) (ports : List (Option Port)) → m ≡ None
-    → dump_status (dump_at rejected m ports) ≡ dump_status (dump_at rejected None [])
-found_any true m ports none = refl
-found_any false None ports none = refl
-found_any false (Some m) ports none = absurd (cc none)
+found_any : (rejected : Bool) (c : Course) (found : Option Found) (ports : List (Option Port)) → c ≡ Falls found
+    → dump_status (dump_at rejected c ports) ≡ dump_status (dump_at rejected (Falls found) [])
+found_any rejected c found ports fell = ap (λ c. dump_status (dump_at rejected c ports)) fell ∙ any_ports rejected found ports
 
 -- the status of a run is that of the dump that it has judged
 status_is : (o : Options) (map : Map) (boards : List Board) (text : List ℕ) (run : Run) (status : Status)
-    → IsDumpJudgedAs (dump_of o map boards text) (dump_so_far run) (standing run.judge) → (o.limit ≡ 1 → IsOnceRun run)
+    → IsDumpJudgedAs (dump_of o map boards text) (dump_so_far run) (placeless run.judge) → (o.limit ≡ 1 → IsOnceRun run)
     → status ≡ dump_status (dump_so_far run) → IsDumpStatusOf o map boards text status
 status_is o map boards text run status (inl same) once is = inl (is ∙ ap dump_status same)
 status_is o map boards text run status (inr found) once is =
-    let any = is ∙ found_any (is_some run.rejection) (standing run.judge) run.ports.last found.1 in
+    let any = is ∙ found_any (is_some run.rejection) (placeless run.judge) found.0 run.ports.last found.2 in
     elim (cases_Bool (o.limit == 1)) [
       | inl one ↦
           inl (
           any
-          ∙ ap (λ (r : Option Rejection). dump_status (dump_at (is_some r) None [])) ((once (eqb-true o.limit 1 one)).1 found.1)
-          ∙ sym (ap dump_status found.0)
+          ∙ ap (λ (r : Option Rejection). dump_status (dump_at (is_some r) (Falls found.0) []))
+          ((once (eqb-true o.limit 1 one)).1 (sym (placeless_stands (standing run.judge)) ∙ ap stands found.2))
+          ∙ sym (ap dump_status found.1)
           )
       | inr more ↦
-          found_status o.limit (dump_of o map boards text) (is_some run.rejection) status (eqb-false o.limit 1 more) found.0 any
+          found_status o.limit (dump_of o map boards text) found.0 (is_some run.rejection) status (eqb-false o.limit 1 more) found.1 any
     ]
 
 -- a piece of a dump after which the run stops
@@ -269,7 +276,7 @@ piece_stops : (o : Options) (map : Map) (boards : List Board) (run new : Run) (t
     → status ≡ dump_status (dump_so_far new) → IsDumpStatusOf o map boards text status
 piece_stops o map boards run new text rest piece next status is same takes says =
     status_is o map boards text new status
-    (subst (λ d. IsDumpJudgedAs d (dump_so_far new) (standing new.judge)) (sym (is.judged ∙ ap (text_whole map run is.reached) same))
+    (subst (λ d. IsDumpJudgedAs d (dump_so_far new) (placeless new.judge)) (sym (is.judged ∙ ap (text_whole map run is.reached) same))
     (takes.1.stops refl next))
     (λ one. let had = is.once one in (takes.1.once had.0 had.1).0) says
 
@@ -278,7 +285,7 @@ module _ (o : Options) (map : Map) (boards : List Board) (run new : Run) (text r
   first_stops : TakesFirst map is.line run new piece false → status ≡ dump_status (dump_so_far new) → IsDumpStatusOf o map boards text status
   first_stops takes says =
       status_is o map boards text new status
-      (subst (λ d. IsDumpJudgedAs d (dump_so_far new) (standing new.judge)) (sym (is.judged ∙ ap (blanks_whole map is.line run) same))
+      (subst (λ d. IsDumpJudgedAs d (dump_so_far new) (placeless new.judge)) (sym (is.judged ∙ ap (blanks_whole map is.line run) same))
       (takes.1.stops refl next))
       (λ one. let had = is.once one in (takes.1.once had.0 had.1).0) says
 
@@ -354,7 +361,7 @@ ended_by o map boards text run new status (InHeader h ds) reading none judged on
 ended_by o map boards text run new status (InBody r) reading none judged once header body says =
     let ends = body r reading in
     status_is o map boards text new status
-    (subst (λ d. IsDumpJudgedAs d (dump_so_far new) (standing new.judge)) (sym judged) ends.judges)
+    (subst (λ d. IsDumpJudgedAs d (dump_so_far new) (placeless new.judge)) (sym judged) ends.judges)
     (λ one. let had = once one in ends.once had.0 had.1) says
 
 -- the end of a text, before a dump or within it

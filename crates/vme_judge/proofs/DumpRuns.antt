@@ -1,5 +1,5 @@
 -- A dump that is judged while it is read.
-use Rattle.std.proofs.Common.{◌≡◌, ℕ, Bool, true, false, inl, inr, List, [], ◌∷◌, ◌++◌, replicate, subst, Option, Some, None, IsSome, is_some, Result, Ok, Err, IfOk, Bor, refl, ap, sym, ◌∙◌}
+use Rattle.std.proofs.Common.{◌≡◌, ℕ, Bool, true, false, inl, inr, List, [], ◌∷◌, ◌++◌, replicate, subst, Option, Some, None, is_some, Result, Ok, Err, IfOk, Bor, refl, ap, sym, ◌∙◌}
 use Rattle.std.specs.declared.alloc.AllocError.{AllocError}
 use Rattle.std.proofs.lemmas.Bool.{false≢true}
 use Rattle.vme_line_map.specs.Variables.{Map}
@@ -16,34 +16,31 @@ use Rattle.vme_judge.specs.declared.dump.Ports.{Ports}
 use Rattle.vme_judge.specs.declared.judge.Judge.{Judge}
 use Rattle.vme_judge.specs.declared.options.Options.{Options}
 use Rattle.vme_judge.specs.declared.run.Run.{Run}
-use Rattle.vme_judge.specs.DumpRuns.{EndsDump, EndsOnce, IsDumpJudgedAs, JudgesDump, Reached, InBody, TakesDump, TakesLast, TakesNext, TakesShown, dump_at, dump_so_far, dump_whole, next_if, shown_by}
+use Rattle.vme_judge.specs.DumpRuns.{EndsDump, EndsOnce, IsDumpJudgedAs, JudgesDump, Reached, InBody, TakesDump, TakesLast, TakesNext, TakesShown, dump_at, dump_so_far, dump_whole, next_if, placeless, placeless_of, shown_by}
 use Rattle.vme_judge.specs.Dumps.{DumpSoFar, Legal, Illegal, Broken, dump_by, dump_taken, next_shown}
-use Rattle.vme_judge.specs.Standing.{Standing, standing, IsOnce}
+use Rattle.vme_judge.specs.Standing.{Course, Falls, Found, HasFallen, Standing, Stands, standing, stands, IsOnce}
+use Rattle.vme_judge.proofs.Dumps.{placeless_stands}
 
--- an illegal dump is not remembered
-dump_none : (m : Option Standing) (ports : List (Option Port)) → dump_by m ports ≡ Illegal → m ≡ None
-dump_none None ports is = refl
-dump_none (Some m) ports is = absurd (cc is)
+-- an illegal dump has fallen
+dump_fell : (c : Course) (ports : List (Option Port)) (found : Option Found) → dump_by c ports ≡ Illegal found → c ≡ Falls found
+dump_fell (Falls other) ports found is = ap Falls (let same : other ≡ found = cc is in same)
+dump_fell (Stands m) ports found is = absurd (cc is)
 
 -- a sample, by whether the dump is rejected
-next_at : (o : Options) (s : Shown) (rejected : Bool) (m n : Option Standing) (last next : List (Option Port))
-    → dump_by n next ≡ next_shown o s (dump_by m last) → dump_at rejected n next ≡ next_shown o s (dump_at rejected m last)
-next_at o s true m n last next is = refl
-next_at o s false m n last next is = is
+next_at : (o : Options) (s : Shown) (rejected : Bool) (c n : Course) (last next : List (Option Port))
+    → dump_by n next ≡ next_shown o s (dump_by c last) → dump_at rejected n next ≡ next_shown o s (dump_at rejected c last)
+next_at o s true c n last next is = refl
+next_at o s false c n last next is = is
 
--- nothing is remembered after a sample, if nothing is before
-next_none : (o : Options) (s : Shown) (m n : Option Standing) (last next : List (Option Port))
-    → dump_by n next ≡ next_shown o s (dump_by m last) → m ≡ None → n ≡ None
-next_none o s m n last next is none = dump_none n next (is ∙ ap (λ m. next_shown o s (dump_by m last)) none)
+-- what was found stays found after a sample
+next_fell : (o : Options) (s : Shown) (c n : Course) (last next : List (Option Port)) → dump_by n next ≡ next_shown o s (dump_by c last)
+    → (found : Option Found) → c ≡ Falls found → n ≡ Falls found
+next_fell o s c n last next is found fell = dump_fell n next found (is ∙ ap (λ c. next_shown o s (dump_by c last)) fell)
 
 -- a dump before its first sample
-pub dump_opens : (m : Option Standing) (opened : Standing) (ports : List (Option Port)) → m ≡ Some opened → ports ≡ replicate 21 None
-    → dump_by m ports ≡ Legal opened (replicate 21 None)
-dump_opens m opened ports is none = ap (λ m. dump_by m ports) is ∙ ap (Legal opened) none
-
--- a value that there is is not none
-not_none : (m : Option Standing) → IsSome m → m ≡ None → ⊥
-not_none m some none = cc (some, none)
+pub dump_opens : (c : Course) (opened : Standing) (ports : List (Option Port)) → c ≡ Stands opened → ports ≡ replicate 21 None
+    → dump_by (placeless_of c) ports ≡ Legal opened (replicate 21 None)
+dump_opens c opened ports is none = ap (λ c. dump_by (placeless_of c) ports) is ∙ ap (Legal opened) none
 
 -- a run that takes a sample
 pub shown_next : (old : Run) (judge : Judge) (ports : Ports) (s : Shown) (result : Result Bool AllocError)
@@ -51,11 +48,11 @@ pub shown_next : (old : Run) (judge : Judge) (ports : Ports) (s : Shown) (result
     → IfOk result (TakesNext old (record old { judge = judge; ports = ports }) (Some s))
 shown_next old judge ports s (Err fault) takes = tt
 shown_next old judge ports s (Ok goes_on) takes = record {
-  dump = next_at old.judge.options.now s (is_some old.rejection) (standing old.judge) (standing judge) old.ports.last ports.last takes.dump;
+  dump = next_at old.judge.options.now s (is_some old.rejection) (placeless old.judge) (placeless judge) old.ports.last ports.last takes.dump;
   reader = refl;
   options = takes.options;
   stops = takes.stops;
-  stays = next_none old.judge.options.now s (standing old.judge) (standing judge) old.ports.last ports.last takes.dump;
+  stays = next_fell old.judge.options.now s (placeless old.judge) (placeless judge) old.ports.last ports.last takes.dump;
   once = λ once going.
       let had = takes.once once.0 going.0 in
       ((had.0, λ none. going.1), λ goes. (had.1 goes, going.1));
@@ -77,7 +74,7 @@ next_nothing run step None more is = record {
   reader = refl;
   options = refl;
   stops = λ stopped. absurd (cc stopped);
-  stays = λ none. none;
+  stays = λ found fell. fell;
   once = λ once going. (once, λ goes. going);
 }
 next_nothing run step (Some s) more is = absurd (let both : steps.More ≡ steps.Sample = sym more ∙ is.0 in cc both)
@@ -128,19 +125,20 @@ first_reading None more = refl
 first_reading (Some s) more = refl
 
 -- a dump that nothing changes
-over_at : (o : Options) (rejected : Bool) (m : Option Standing) (ports : List (Option Port)) (samples : Samples) → m ≡ None
-    → dump_taken o (dump_at rejected m ports) samples ≡ dump_at rejected m ports
-over_at o true m ports End none = refl
-over_at o true m ports BrokenBody none = refl
-over_at o true m ports (Sample s samples) none = over_at o true m ports samples none
-over_at o false (Some m) ports samples none = absurd (cc none)
-over_at o false None ports End none = refl
-over_at o false None ports BrokenBody none = refl
-over_at o false None ports (Sample s samples) none = over_at o false None ports samples none
+over_at : (o : Options) (rejected : Bool) (c : Course) (ports : List (Option Port)) (samples : Samples) → HasFallen c
+    → dump_taken o (dump_at rejected c ports) samples ≡ dump_at rejected c ports
+over_at o true c ports End fell = refl
+over_at o true c ports BrokenBody fell = refl
+over_at o true c ports (Sample s samples) fell = over_at o true c ports samples fell
+over_at o false (Stands m) ports samples fell = absurd (cc fell)
+over_at o false (Falls found) ports End fell = refl
+over_at o false (Falls found) ports BrokenBody fell = refl
+over_at o false (Falls found) ports (Sample s samples) fell = over_at o false (Falls found) ports samples fell
 
 -- a run that has found something is over
-over : (o : Options) (run : Run) (samples : Samples) → standing run.judge ≡ None → dump_taken o (dump_so_far run) samples ≡ dump_so_far run
-over o run samples none = over_at o (is_some run.rejection) (standing run.judge) run.ports.last samples none
+over : (o : Options) (run : Run) (samples : Samples) → HasFallen (standing run.judge) → dump_taken o (dump_so_far run) samples ≡ dump_so_far run
+over o run samples fell =
+    over_at o (is_some run.rejection) (placeless run.judge) run.ports.last samples (placeless_stands (standing run.judge) ∙ fell)
 
 -- what is left of a dump, by what is read of it
 whole_same : (o p : Options) (d e : DumpSoFar) (rows all : List Row) (after : Reading) (rest : List ℕ) → p ≡ o → e ≡ d → all ≡ rows
@@ -151,7 +149,7 @@ whole_same o p d e rows all after rest options dump same =
     ∙ ap (λ rows. dump_taken p e (samples_of rows after rest)) (sym same)
 
 -- a dump that is judged as it is
-judged_as : (dump judged over : DumpSoFar) (m : Option Standing) → dump ≡ judged → judged ≡ over → IsDumpJudgedAs dump over m
+judged_as : (dump judged over : DumpSoFar) (m : Course) → dump ≡ judged → judged ≡ over → IsDumpJudgedAs dump over m
 judged_as dump judged over m is same = inl (sym (is ∙ same))
 
 -- what is left of a dump after the sample which bytes complete
@@ -178,7 +176,7 @@ module _ (map : Map) (old new : Run) (v : VcdReader) (r after : Reading) (bytes 
       judges = λ rest. whole_judged old new v r after bytes shown goes_on rest (says rest) rows takes;
     };
     stops = λ off rest.
-        judged_as (dump_whole old r (bytes ++ rest)) (dump_whole new after rest) (dump_so_far new) (standing new.judge)
+        judged_as (dump_whole old r (bytes ++ rest)) (dump_whole new after rest) (dump_so_far new) (placeless new.judge)
         (whole_judged old new v r after bytes shown goes_on rest (says rest) rows takes)
         (over new.judge.options.now new (samples_of (rows_of new.vcd) after rest) (takes.stops off));
     stays = takes.stays;
@@ -205,28 +203,28 @@ byte_judged map old new v r byte step result reads rows takes =
     byte_by map old new v r byte step (byte_taken (rows_of old.vcd) r byte) result refl reads rows takes
 
 -- a dump whose text is none of a body, by what was judged of it before
-broken_at : (o : Options) (rejected : Bool) (m n : Option Standing) (ports : List (Option Port)) (samples : Samples) → samples ≡ BrokenBody
-    → n ≡ m → IsDumpJudgedAs (dump_taken o (dump_at rejected m ports) samples) Broken n
-broken_at o true m n ports samples is same = inl (sym (ap (dump_taken o Broken) is))
-broken_at o false None n ports samples is same = inr (ap (dump_taken o Illegal) is, same)
-broken_at o false (Some m) n ports samples is same = inl (sym (ap (dump_taken o (Legal m ports)) is))
+broken_at : (o : Options) (rejected : Bool) (c n : Course) (ports : List (Option Port)) (samples : Samples) → samples ≡ BrokenBody
+    → n ≡ c → IsDumpJudgedAs (dump_taken o (dump_at rejected c ports) samples) Broken n
+broken_at o true c n ports samples is same = inl (sym (ap (dump_taken o Broken) is))
+broken_at o false (Falls found) n ports samples is same = inr (found, ap (dump_taken o (Illegal found)) is, same)
+broken_at o false (Stands m) n ports samples is same = inl (sym (ap (dump_taken o (Legal m ports)) is))
 
 -- a run that has rejected a dump
 pub rejected_is : (run : Run) → is_some run.rejection ≡ true → dump_so_far run ≡ Broken
-rejected_is run is = ap (λ rejected. dump_at rejected (standing run.judge) run.ports.last) is
+rejected_is run is = ap (λ rejected. dump_at rejected (placeless run.judge) run.ports.last) is
 
 -- a run that rejects a body
 pub body_rejected : (old new : Run) (r : Reading) (text : List ℕ) → samples_of (rows_of old.vcd) r text ≡ BrokenBody
-    → is_some new.rejection ≡ true → new.judge ≡ old.judge → IsDumpJudgedAs (dump_whole old r text) (dump_so_far new) (standing new.judge)
+    → is_some new.rejection ≡ true → new.judge ≡ old.judge → IsDumpJudgedAs (dump_whole old r text) (dump_so_far new) (placeless new.judge)
 body_rejected old new r text broken rejected judge =
-    subst (λ d. IsDumpJudgedAs (dump_whole old r text) d (standing new.judge)) (sym (rejected_is new rejected))
-    (broken_at old.judge.options.now (is_some old.rejection) (standing old.judge) (standing new.judge) old.ports.last
-    (samples_of (rows_of old.vcd) r text) broken (ap standing judge))
+    subst (λ d. IsDumpJudgedAs (dump_whole old r text) d (placeless new.judge)) (sym (rejected_is new rejected))
+    (broken_at old.judge.options.now (is_some old.rejection) (placeless old.judge) (placeless new.judge) old.ports.last
+    (samples_of (rows_of old.vcd) r text) broken (ap (λ j. placeless j) judge))
 
 -- a run for one finding that has found nothing, and rejects a dump
 pub rejects_once : (old new : Run) → new.judge ≡ old.judge → EndsOnce old new
 rejects_once old new judge once going =
-    (subst IsOnce (sym judge) once.0, λ none. absurd (not_none (standing old.judge) going.0 (sym (ap standing judge) ∙ none)))
+    (subst IsOnce (sym judge) once.0, λ fell. absurd (false≢true (sym fell ∙ ap (λ j. stands (standing j)) judge ∙ going.0)))
 
 -- a run that rejects bytes of a dump, whatever follows
 pub dump_rejected : (map : Map) (old new : Run) (reached : Reached) (bytes : List ℕ) (goes_on : Bool)
@@ -235,7 +233,7 @@ pub dump_rejected : (map : Map) (old new : Run) (reached : Reached) (bytes : Lis
 dump_rejected map old new reached bytes goes_on judges stops judge = record {
   reads = λ on. absurd (false≢true (sym stops ∙ on));
   stops = λ off. judges;
-  stays = λ none. ap standing judge ∙ none;
+  stays = λ found fell. ap (λ j. placeless j) judge ∙ fell;
   once = λ once going. (rejects_once old new judge once going, λ on. absurd (false≢true (sym stops ∙ on)));
 }
 
@@ -270,6 +268,28 @@ last_stopped old new step (Sample s samples) goes_on is last takes off = record 
   once = λ once going. (takes.once once going).0;
 }
 
+-- no samples are left, if a reader reports none
+none_left : (left : Samples) (next : Step) (v : VcdReader) → ReportsLast left next v → (next ≡ steps.Sample → ⊥) → left ≡ End
+none_left BrokenBody next v last other = absurd last
+none_left End next v last other = refl
+none_left (Sample t others) next v last other = absurd (other last.0.0)
+
+-- a run that takes the only one of the last samples
+pub last_only : (old mid : Run) (v : VcdReader) (step next : Step) (samples : Samples) (on : Bool) → step ≡ steps.Sample
+    → ReportsLast samples step old.vcd → TakesNext old mid (Some (shown_by old.vcd)) on → ReportsLast (samples_left mid.vcd) next v
+    → (next ≡ steps.Sample → ⊥) → TakesLast old (record mid { vcd = v }) samples
+last_only old mid v step next BrokenBody on is last takes left other = absurd last
+last_only old mid v step next End on is last takes left other = absurd (let both : steps.Sample ≡ steps.More = sym is ∙ last.0 in cc both)
+last_only old mid v step next (Sample s samples) on is last takes left other = record {
+  dump =
+      takes.dump
+      ∙ ap (λ s. next_shown old.judge.options.now s (dump_so_far old)) (reports_is s step old.vcd last.0)
+      ∙ sym (ap (dump_taken old.judge.options.now (next_shown old.judge.options.now s (dump_so_far old)))
+      (sym last.1 ∙ ap samples_left (sym takes.reader) ∙ none_left (samples_left mid.vcd) next v left other));
+  stays = takes.stays;
+  once = λ once going. (takes.once once going).0;
+}
+
 -- a run that takes the second of the last samples, by which are left after the first
 second_by : (old mid new : Run) (v : VcdReader) (next : Step) (s : Shown) (left samples : Samples) (on goes_on : Bool)
     → next ≡ steps.Sample → samples_left old.vcd ≡ samples → left ≡ samples → ReportsLast left next v → on ≡ true
@@ -286,7 +306,7 @@ second_by old mid new v next s (Sample t others) samples on goes_on is were same
       ∙ ap (λ others. dump_taken old.judge.options.now (next_shown old.judge.options.now s (dump_so_far old)) (Sample t others))
       (sym (last_left old.vcd old.vcd.is_begun t others refl (were ∙ sym same)))
       ∙ ap (dump_taken old.judge.options.now (next_shown old.judge.options.now s (dump_so_far old))) same;
-  stays = λ none. second.stays (first.stays none);
+  stays = λ found fell. second.stays found (first.stays found fell);
   once = λ once going. let had = first.once once going in (second.once had.0 (had.1 went)).0;
 }
 
@@ -317,6 +337,6 @@ pub ended_broken : (old new : Run) (r : Reading) → samples_of (rows_of old.vcd
     → new.judge ≡ old.judge → EndsDump old new r
 ended_broken old new r broken rejected judge = record {
   judges = body_rejected old new r [] broken rejected judge;
-  stays = λ none. ap standing judge ∙ none;
+  stays = λ found fell. ap (λ j. placeless j) judge ∙ fell;
   once = rejects_once old new judge;
 }

@@ -1,66 +1,142 @@
 -- A sample of a dump, and what the local ports have done at it.
-use Rattle.std.proofs.Common.{◌≡◌, ℕ, ◌+◌, ◌^◌, ◌%◌, ◌<◌, ◌≤◌, Bool, true, false, not, ◌==◌, ◌||◌, List, [], ◌∷◌, ◌++◌, append_assoc, length, get_or, take, drop, Option, Some, None, IsSome, is_some, Result, Ok, Err, IfOk, Bor, refl, ap, sym, ◌∙◌}
+use Rattle.std.proofs.Common.{◌≡◌, ℕ, ◌+◌, ◌^◌, ◌%◌, ◌<◌, ◌≤◌, Bool, true, false, not, ◌==◌, ◌||◌, List, [], ◌∷◌, ◌++◌, append_assoc, length, get_or, take, drop, Option, Some, None, is_some, Result, Ok, Err, IfOk, Bor, refl, ap, sym, ◌∙◌}
 use Rattle.std.specs.Prelude.{bit_and, if◌then◌else◌}
-use Rattle.std.specs.Option.{option_and_then, option_map}
+use Rattle.std.specs.List.{position}
 use Rattle.std.specs.declared.alloc.AllocError.{AllocError}
 use Rattle.std.proofs.Math.ListN.{drop_of_length-le}
 use Rattle.std.proofs.Math.Nat.{zero-div}
 use Rattle.std.proofs.lemmas.Bool.{false≢true}
 use Rattle.std.proofs.lemmas.List.{drop_more, take-append-drop, take_more}
+use Rattle.vme_protocol.specs.declared.datum.Datum.{Datum}
+use Rattle.vme_protocol.specs.declared.port.Local.{Local}
 use Rattle.vme_protocol.specs.declared.port.Port.{Port}
-use Rattle.vme_protocol.specs.Ports.{local_between}
+use Rattle.vme_protocol.specs.declared.rule.Rule.{Rule}
+use Rattle.vme_protocol.specs.declared.sample.Sample.{Sample}
 use Rattle.vme_protocol.specs.declared.scope.Scope.{Scope}
+use Rattle.vme_protocol.specs.declared.watch.Watch.{Watch}
+use Rattle.vme_protocol.specs.Ports.{local_between}
+use Rattle.vme_protocol.specs.Watching.{answer_of}
+use Rattle.vme_answers.specs.Taking.{Judged, local_taken, taken}
+use Rattle.vme_answers.specs.Wrongs.{local_wrong_of, wrong_of}
 use Rattle.vme_vcd_reader.specs.declared.bus.BusLines.{BusLines}
 use Rattle.vme_vcd_reader.specs.declared.presence.Presence.{Presence}
+use Rattle.vme_judge.specs.declared.counts.Counts.{Counts}
 use Rattle.vme_judge.specs.declared.finding.Finding.{Finding}
 use Rattle.vme_judge.specs.declared.judge.Judge.{Judge}
+use Rattle.vme_judge.specs.declared.judge.Spot.{Spot}
 use Rattle.vme_judge.specs.declared.options.Options.{Options}
-use Rattle.vme_judge.specs.DumpRuns.{Takes}
-use Rattle.vme_judge.specs.Dumps.{done_taken, dump_scope, is_among, port_at, port_taken, ports_after, ports_taken, slots_of, with_presence}
-use Rattle.vme_judge.specs.Standing.{Standing, standing, standing_of, state_of, IsOnce, KeepsTask}
+use Rattle.vme_judge.specs.declared.transfer.OpenTransfer.{OpenTransfer}
+use Rattle.vme_judge.specs.DumpRuns.{Takes, placeless, placeless_of}
+use Rattle.vme_judge.specs.Dumps.{breach_taken, done_taken, dump_scope, is_among, port_at, port_finding, port_taken, ports_after, ports_taken, slots_of, with_presence}
+use Rattle.vme_judge.specs.Logs.{access_finding, access_judged, access_known, access_taken, accessed}
+use Rattle.vme_judge.specs.Standing.{Course, Falls, HasFallen, IsStanding, Standing, Stands, answer_finding, closed, counted, course_map, course_then, datum_judged, datum_known, found_at, found_by, noted, opened, order_finding, order_judged, sample_judged, sample_taken, shown_judged, standing, standing_of, stands, state_of, IsOnce, KeepsTask}
+use Rattle.vme_judge.proofs.Logs.{then_fallen}
 
 -- what is remembered is changed, by whether something was found before
 map_by : (f : Standing → Standing) (found : ℕ) (finding : Option Finding) (m : Standing) (test : Bool) → (found == 0) ≡ test
-    → standing_of found finding (f m) ≡ option_map f (standing_of found finding m)
-map_by f found finding m false is = rw is refl
-map_by f found None m true is = rw is refl
-map_by f found (Some finding) m true is = rw is refl
+    → ((finding : Finding) → found_by (Some finding) (f m) ≡ found_by (Some finding) m)
+    → standing_of found finding (f m) ≡ course_map f (standing_of found finding m)
+map_by f found finding m false is same = rw is refl
+map_by f found None m true is same = rw is refl
+map_by f found (Some finding) m true is same = rw is (same finding)
 
 -- what is remembered once it is known which lines a dump has
 pub scoped : (old : Judge) (p : Presence) (slots : ℕ) (scope : Scope) → slots ≡ slots_of old.boards.now → scope ≡ dump_scope p slots old.scope
-    → standing (record old { scope = scope }) ≡ option_map (with_presence p) (standing old)
+    → standing (record old { scope = scope }) ≡ course_map (with_presence p) (standing old)
 unfolding standing
 scoped old p slots scope is now =
     ap (λ scope. standing_of old.found old.finding (record (state_of old) { scope = scope })) (now ∙ ap (λ slots. dump_scope p slots old.scope) is)
-    ∙ map_by (with_presence p) old.found old.finding (state_of old) (old.found == 0) refl
+    ∙ map_by (with_presence p) old.found old.finding (state_of old) (old.found == 0) refl (λ finding. refl)
 
--- nothing is remembered once something is found, by whether it was before
-found_by : (found : ℕ) (finding : Option Finding) (m : Standing) (test : Bool) → (found == 0) ≡ test → IsSome finding
-    → standing_of found finding m ≡ None
-found_by found finding m false is some = rw is refl
-found_by found None m true is some = absurd (cc some)
-found_by found (Some finding) m true is some = rw is refl
+-- a finding without its line
+without_line : (once : Bool) (f : Finding) (counts : Counts) (t : Option OpenTransfer)
+    → placeless_of (found_at once f counts t) ≡ found_at once (record f { line = 0; undefined = None }) counts t
+without_line true f counts t = refl
+without_line false f counts t = refl
 
--- nothing is remembered once something is found
-pub found_none : (judge : Judge) → IsSome judge.finding → standing judge ≡ None
-unfolding standing
-found_none judge some = found_by judge.found judge.finding (state_of judge) (judge.found == 0) refl some
+-- a course without lines after something
+pub placeless_then : (f g : Standing → Course) (c : Course) → ((m : Standing) → placeless_of (f m) ≡ g m)
+    → placeless_of (course_then f c) ≡ course_then g (placeless_of c)
+placeless_then f g (Stands m) same = same m
+placeless_then f g (Falls found) same = refl
 
--- a value that there is
-some_is : (m : Option Standing) → true ≡ is_some m → IsSome m
-some_is m is = sym is
+-- a datum without its line
+datum_placeless : (spot : Spot) (w : Watch) (s : Sample) (d : Datum) (m : Standing) (k : Judged) (answer : Result Judged Rule)
+    → placeless_of (course_map (closed w.last s) (datum_known spot w.last s d k m answer))
+    ≡ course_map (closed w.last s) (datum_known (record spot { line = 0 }) w.last s d k m answer)
+datum_placeless spot w s d m k (Ok next) = refl
+datum_placeless spot w s d m k (Err rule) = without_line m.once (answer_finding spot m.boards w.last s m.transfer d (wrong_of k d rule)) m.counts None
 
--- none that there is not
-none_is : (m : Option Standing) → false ≡ is_some m → m ≡ None
-none_is None is = refl
-none_is (Some m) is = absurd (cc is)
+-- what is shown without its line
+shown_placeless : (spot : Spot) (w : Watch) (s : Sample) (m : Standing) (datum : Option Datum) (answers : Option Judged) → m.answers ≡ answers
+    → placeless_of (course_map (closed w.last s) (shown_judged spot w.last s m datum))
+    ≡ course_map (closed w.last s) (shown_judged (record spot { line = 0 }) w.last s m datum)
+shown_placeless spot w s m None answers is = refl
+shown_placeless spot w s m (Some d) None is =
+    ap (λ k. placeless_of (course_map (closed w.last s) (datum_judged spot w.last s d (noted d (opened w.last s m)) k))) is
+    ∙ sym (ap (λ k. course_map (closed w.last s) (datum_judged (record spot { line = 0 }) w.last s d (noted d (opened w.last s m)) k)) is)
+shown_placeless spot w s m (Some d) (Some k) is =
+    ap (λ k. placeless_of (course_map (closed w.last s) (datum_judged spot w.last s d (noted d (opened w.last s m)) k))) is
+    ∙ datum_placeless spot w s d (noted d (opened w.last s m)) k (taken k d)
+    ∙ sym (ap (λ k. course_map (closed w.last s) (datum_judged (record spot { line = 0 }) w.last s d (noted d (opened w.last s m)) k)) is)
+
+-- a sample without its line, by the rule that it breaks or the datum that it shows
+order_placeless : (spot : Spot) (undefined : Option (Bor (List ℕ))) (w : Watch) (s : Sample) (m : Standing) (answer : Result (Option Datum) Rule)
+    → placeless_of (order_judged spot undefined w s m answer) ≡ order_judged (record spot { line = 0 }) None w s m answer
+order_placeless spot undefined w s m (Err rule) =
+    without_line m.once (order_finding spot undefined w.last s m.transfer rule) (counted w s m).counts None
+order_placeless spot undefined w s m (Ok datum) = shown_placeless spot w s (counted w s m) datum m.answers refl
+
+-- the same by the samples before it
+judged_placeless : (spot : Spot) (undefined : Option (Bor (List ℕ))) (s : Sample) (m : Standing) (w : Option Watch)
+    → placeless_of (sample_judged spot undefined s m w) ≡ sample_judged (record spot { line = 0 }) None s m w
+judged_placeless spot undefined s m None = refl
+judged_placeless spot undefined s m (Some w) = order_placeless spot undefined w s m (answer_of w s)
+
+-- a sample without its line
+pub sample_placeless : (spot : Spot) (undefined : Option (Bor (List ℕ))) (s : Sample) (m : Standing)
+    → placeless_of (sample_taken spot undefined s m) ≡ sample_taken (record spot { line = 0 }) None s m
+unfolding sample_taken
+sample_placeless spot undefined s m = judged_placeless spot undefined s m m.watch
+
+-- a local access without its line, by the answer of its board
+known_placeless : (spot : Spot) (slot : ℕ) (a : Local) (board : ℕ) (k : Judged) (m : Standing) (answer : Result Judged Rule)
+    → placeless_of (access_known spot slot a board k m answer) ≡ access_known (record spot { line = 0 }) slot a board k m answer
+known_placeless spot slot a board k m (Ok next) = refl
+known_placeless spot slot a board k m (Err rule) =
+    without_line m.once (access_finding spot slot a m.transfer (local_wrong_of k board a rule)) m.counts m.transfer
+
+-- the same by its board
+board_placeless : (spot : Spot) (slot : ℕ) (a : Local) (m : Standing) (board : Option ℕ) (k : Option Judged)
+    → placeless_of (access_judged spot slot a m board k) ≡ access_judged (record spot { line = 0 }) slot a m board k
+board_placeless spot slot a m None k = refl
+board_placeless spot slot a m (Some board) None = refl
+board_placeless spot slot a m (Some board) (Some k) = known_placeless spot slot a board k m (local_taken k board a)
+
+-- a local access without its line
+pub access_placeless : (spot : Spot) (slot : ℕ) (a : Local) (m : Standing)
+    → placeless_of (access_taken spot slot a m) ≡ access_taken (record spot { line = 0 }) slot a m
+unfolding access_taken
+access_placeless spot slot a m =
+    board_placeless spot slot a (accessed m) (position (λ board. board.slot == slot) m.boards) m.answers
+
+-- a rule that a local port breaks, without its line
+pub breach_placeless : (spot : Spot) (slot : ℕ) (rule : Rule) (m : Standing)
+    → placeless_of (breach_taken spot slot rule m) ≡ breach_taken (record spot { line = 0 }) slot rule m
+unfolding breach_taken
+breach_placeless spot slot rule m = without_line m.once (port_finding spot slot m.transfer rule) m.counts m.transfer
+
+-- whether a course stands does not depend on lines
+pub placeless_stands : (c : Course) → stands (placeless_of c) ≡ stands c
+placeless_stands (Stands m) = refl
+placeless_stands (Falls found) = refl
 
 -- a judgement for one finding stays one
 pub once_kept : (old new : Judge) → KeepsTask old new → IsOnce old → IsOnce new
 once_kept old new task once = (ap (λ (o : Bor Options). o.now.limit) task.0 ∙ once.0, task.3 ∙ once.1)
 
 -- a judgement that takes nothing
-pub takes_nothing : (judge : Judge) (taken : Standing → Option Standing) → option_and_then taken (standing judge) ≡ standing judge
+pub takes_nothing : (judge : Judge) (taken : Standing → Course) → course_then taken (placeless judge) ≡ placeless judge
     → Takes judge judge taken true
 takes_nothing judge taken same = record {
   judged = sym same;
@@ -70,90 +146,83 @@ takes_nothing judge taken same = record {
 }
 
 -- a judgement that takes what is legal
-pub takes_legal : (old new : Judge) (taken : Standing → Option Standing) (legal : Bool) → legal ≡ true
-    → standing new ≡ option_and_then taken (standing old) → (IsSome (standing old) → legal ≡ is_some (standing new))
-    → KeepsTask old new → Takes old new taken true
-takes_legal old new taken legal is judged goes task = record {
-  judged = judged;
-  stops = λ is. absurd (cc is);
+pub takes_legal : (old new : Judge) (f g : Standing → Course) (legal : Bool) → legal ≡ true → ((m : Standing) → placeless_of (f m) ≡ g m)
+    → standing new ≡ course_then f (standing old) → (IsStanding (standing old) → legal ≡ stands (standing new))
+    → KeepsTask old new → Takes old new g true
+takes_legal old new f g legal is same judged goes task = record {
+  judged = ap placeless_of judged ∙ placeless_then f g (standing old) same;
+  stops = λ off. absurd (cc off);
   options = task.0;
-  once = λ once stood. (once_kept old new task once, λ on. sym (sym is ∙ goes stood));
+  once = λ once stood. (once_kept old new task once, λ on. sym (goes stood) ∙ is);
 }
 
 module _ (old new : Judge) (result : Result Bool AllocError) where
   -- what a judgement states that may go on after a finding
   pub record GoesOn : Type 0 where
     pub stands : IfOk result (λ _. standing new ≡ standing old)
-    pub stops : IfOk result (λ goes_on. goes_on ≡ false → standing new ≡ None)
+    pub stops : IfOk result (λ goes_on. goes_on ≡ false → HasFallen (standing new))
     pub once : IfOk result (λ _. IsOnce old → IsOnce new)
-    pub ends : IfOk result (λ goes_on. IsOnce old → standing old ≡ None → goes_on ≡ false)
+    pub ends : IfOk result (λ goes_on. IsOnce old → HasFallen (standing old) → goes_on ≡ false)
     pub options : IfOk result (λ _. new.options ≡ old.options)
 
 -- a judgement that takes what is not legal, and may go on
-pub takes_illegal : (old mid new : Judge) (taken : Standing → Option Standing) (result : Result Bool AllocError)
-    → standing mid ≡ option_and_then taken (standing old) → (IsSome (standing old) → standing mid ≡ None) → KeepsTask old mid
-    → GoesOn mid new result → IfOk result (Takes old new taken)
-takes_illegal old mid new taken (Err fault) judged none task goes = tt
-takes_illegal old mid new taken (Ok goes_on) judged none task goes = record {
-  judged = goes.stands ∙ judged;
+pub takes_illegal : (old mid new : Judge) (f g : Standing → Course) (result : Result Bool AllocError)
+    → ((m : Standing) → placeless_of (f m) ≡ g m) → standing mid ≡ course_then f (standing old)
+    → (IsStanding (standing old) → HasFallen (standing mid)) → KeepsTask old mid → GoesOn mid new result → IfOk result (Takes old new g)
+takes_illegal old mid new f g (Err fault) same judged fell task goes = tt
+takes_illegal old mid new f g (Ok goes_on) same judged fell task goes = record {
+  judged = ap placeless_of (goes.stands ∙ judged) ∙ placeless_then f g (standing old) same;
   stops = goes.stops;
   options = goes.options ∙ task.0;
   once = λ once stood.
       let mid_once = once_kept old mid task once in
-      (goes.once mid_once, λ on. absurd (false≢true (sym (goes.ends mid_once (none stood)) ∙ on)));
+      (goes.once mid_once, λ on. absurd (false≢true (sym (goes.ends mid_once (fell stood)) ∙ on)));
 }
 
--- nothing is remembered after a rule that is broken
-no_more : (m : Option Standing) → option_and_then (λ m. let r : Option Standing = None in r) m ≡ None
-no_more None = refl
-no_more (Some m) = refl
-
 -- a rule that is broken
-pub takes_breach : (old mid new : Judge) (result : Result Bool AllocError) → IsSome mid.finding → KeepsTask old mid → GoesOn mid new result
-    → IfOk result (Takes old new (λ m. None))
-takes_breach old mid new result some task goes =
-    takes_illegal old mid new (λ m. None) result (found_none mid some ∙ sym (no_more (standing old))) (λ stood. found_none mid some) task goes
+pub takes_breach : (old mid new : Judge) (spot : Spot) (slot : ℕ) (rule : Rule) (result : Result Bool AllocError)
+    → standing mid ≡ course_then (breach_taken spot slot rule) (standing old) → HasFallen (standing mid) → KeepsTask old mid
+    → GoesOn mid new result → IfOk result (Takes old new (breach_taken (record spot { line = 0 }) slot rule))
+takes_breach old mid new spot slot rule result judged fell task goes =
+    takes_illegal old mid new (breach_taken spot slot rule) (breach_taken (record spot { line = 0 }) slot rule) result
+    (breach_placeless spot slot rule) judged (λ stood. fell) task goes
 
 -- the same by what is called legal
-pub takes_wrong : (old mid new : Judge) (taken : Standing → Option Standing) (legal : Bool) (result : Result Bool AllocError) → legal ≡ false
-    → standing mid ≡ option_and_then taken (standing old) → (IsSome (standing old) → legal ≡ is_some (standing mid)) → KeepsTask old mid
-    → GoesOn mid new result → IfOk result (Takes old new taken)
-takes_wrong old mid new taken legal result is judged legals task goes =
-    takes_illegal old mid new taken result judged (λ stood. none_is (standing mid) (sym is ∙ legals stood)) task goes
+pub takes_wrong : (old mid new : Judge) (f g : Standing → Course) (legal : Bool) (result : Result Bool AllocError) → legal ≡ false
+    → ((m : Standing) → placeless_of (f m) ≡ g m) → standing mid ≡ course_then f (standing old)
+    → (IsStanding (standing old) → legal ≡ stands (standing mid)) → KeepsTask old mid → GoesOn mid new result → IfOk result (Takes old new g)
+takes_wrong old mid new f g legal result is same judged legals task goes =
+    takes_illegal old mid new f g result same judged (λ stood. sym (legals stood) ∙ is) task goes
 
 -- one thing after another
-and_both : (f g : Standing → Option Standing) (m : Option Standing)
-    → option_and_then g (option_and_then f m) ≡ option_and_then (λ m. option_and_then g (f m)) m
-and_both f g None = refl
-and_both f g (Some m) = refl
-
--- nothing is remembered after anything, if nothing is
-none_after : (f : Standing → Option Standing) (m : Option Standing) → m ≡ None → option_and_then f m ≡ None
-none_after f m none = ap (option_and_then f) none
+and_both : (f g : Standing → Course) (c : Course) → course_then g (course_then f c) ≡ course_then (λ m. course_then g (f m)) c
+and_both f g (Falls found) = refl
+and_both f g (Stands m) = refl
 
 -- a judgement that takes one thing after another
-pub takes_both : (old mid new : Judge) (f g : Standing → Option Standing) (goes_on : Bool) → Takes old mid f true → Takes mid new g goes_on
-    → Takes old new (λ m. option_and_then g (f m)) goes_on
+pub takes_both : (old mid new : Judge) (f g : Standing → Course) (goes_on : Bool) → Takes old mid f true → Takes mid new g goes_on
+    → Takes old new (λ m. course_then g (f m)) goes_on
 takes_both old mid new f g goes_on one two = record {
-  judged = two.judged ∙ ap (option_and_then g) one.judged ∙ and_both f g (standing old);
+  judged = two.judged ∙ ap (course_then g) one.judged ∙ and_both f g (placeless old);
   stops = two.stops;
   options = two.options ∙ one.options;
   once = λ once stood. let had = one.once once stood in two.once had.0 (had.1 refl);
 }
 
 -- a judgement that stops takes nothing further
-pub takes_first : (old new : Judge) (f g : Standing → Option Standing) → Takes old new f false
-    → Takes old new (λ m. option_and_then g (f m)) false
+pub takes_first : (old new : Judge) (f g : Standing → Course) → Takes old new f false → Takes old new (λ m. course_then g (f m)) false
 takes_first old new f g one = record {
-  judged = one.stops refl ∙ sym (none_after g (standing new) (one.stops refl)) ∙ ap (option_and_then g) one.judged ∙ and_both f g (standing old);
+  judged =
+      sym (then_fallen g (placeless new) (placeless_stands (standing new) ∙ one.stops refl))
+      ∙ ap (course_then g) one.judged ∙ and_both f g (placeless old);
   stops = one.stops;
   options = one.options;
   once = λ once stood. let had = one.once once stood in (had.0, λ on. absurd (false≢true on));
 }
 
 -- the same thing, said otherwise
-pub takes_as : (old new : Judge) (f g : Standing → Option Standing) (goes_on : Bool)
-    → option_and_then f (standing old) ≡ option_and_then g (standing old) → Takes old new f goes_on → Takes old new g goes_on
+pub takes_as : (old new : Judge) (f g : Standing → Course) (goes_on : Bool) → course_then f (placeless old) ≡ course_then g (placeless old)
+    → Takes old new f goes_on → Takes old new g goes_on
 takes_as old new f g goes_on same takes = record {
   judged = takes.judged ∙ same;
   stops = takes.stops;
@@ -162,13 +231,13 @@ takes_as old new f g goes_on same takes = record {
 }
 
 -- a port before the first sample at rest, by whether something was found
-waits_by : (slot : ℕ) (last now : Port) (found : ℕ) (finding : Option Finding) (m : Standing) (test : Bool) → (found == 0) ≡ test
+waits_by : (spot : Spot) (slot : ℕ) (last now : Port) (found : ℕ) (finding : Option Finding) (m : Standing) (test : Bool) → (found == 0) ≡ test
     → is_some m.watch ≡ false
-    → option_and_then (port_taken slot (Some last) now) (standing_of found finding m) ≡ standing_of found finding m
-waits_by slot last now found finding m false is waits = rw is refl
-waits_by slot last now found (Some finding) m true is waits = rw is refl
-waits_by slot last now found None m true is waits =
-    rw is (ap (λ test. let r : Option Standing = if test then done_taken slot (local_between last now) m else Some m in r) waits)
+    → course_then (port_taken spot slot (Some last) now) (placeless_of (standing_of found finding m)) ≡ placeless_of (standing_of found finding m)
+waits_by spot slot last now found finding m false is waits = rw is refl
+waits_by spot slot last now found (Some finding) m true is waits = rw is refl
+waits_by spot slot last now found None m true is waits =
+    rw is (ap (λ test. let r : Course = if test then done_taken spot slot (local_between last now) m else Stands m in r) waits)
 
 -- one of two, of which the second is not
 or_false : (test : Bool) → (test || not true) ≡ true → test ≡ true
@@ -181,54 +250,54 @@ neither true b is = is
 neither false b is = refl
 
 -- a port that is judged, by whether something was found
-judges_by : (slot : ℕ) (last now : Port) (found : ℕ) (finding : Option Finding) (m : Standing) (test : Bool) → (found == 0) ≡ test
+judges_by : (spot : Spot) (slot : ℕ) (last now : Port) (found : ℕ) (finding : Option Finding) (m : Standing) (test : Bool) → (found == 0) ≡ test
     → (is_some m.watch || not test) ≡ true
-    → option_and_then (done_taken slot (local_between last now)) (standing_of found finding m)
-    ≡ option_and_then (port_taken slot (Some last) now) (standing_of found finding m)
-judges_by slot last now found finding m false is begun = rw is refl
-judges_by slot last now found (Some finding) m true is begun = rw is refl
-judges_by slot last now found None m true is begun =
-    rw is (sym (ap (λ test. let r : Option Standing = if test then done_taken slot (local_between last now) m else Some m in r) (or_false (is_some m.watch) begun)))
+    → course_then (done_taken spot slot (local_between last now)) (placeless_of (standing_of found finding m))
+    ≡ course_then (port_taken spot slot (Some last) now) (placeless_of (standing_of found finding m))
+judges_by spot slot last now found finding m false is begun = rw is refl
+judges_by spot slot last now found (Some finding) m true is begun = rw is refl
+judges_by spot slot last now found None m true is begun =
+    rw is (sym (ap (λ test. let r : Course = if test then done_taken spot slot (local_between last now) m else Stands m in r) (or_false (is_some m.watch) begun)))
 
 -- a port before the first sample at rest is remembered only
-pub takes_waiting : (judge : Judge) (slot : ℕ) (last : Option Port) (before now : Port) (begun : Bool) → last ≡ Some before
-    → begun ≡ (is_some judge.watch || not (judge.found == 0)) → begun ≡ false → Takes judge judge (port_taken slot last now) true
+pub takes_waiting : (judge : Judge) (spot : Spot) (slot : ℕ) (last : Option Port) (before now : Port) (begun : Bool) → last ≡ Some before
+    → begun ≡ (is_some judge.watch || not (judge.found == 0)) → begun ≡ false → Takes judge judge (port_taken spot slot last now) true
 unfolding standing
-takes_waiting judge slot last before now begun is same not_begun =
-    takes_nothing judge (port_taken slot last now) (
-    ap (λ last. option_and_then (port_taken slot last now) (standing judge)) is
-    ∙ waits_by slot before now judge.found judge.finding (state_of judge) (judge.found == 0) refl
+takes_waiting judge spot slot last before now begun is same not_begun =
+    takes_nothing judge (port_taken spot slot last now) (
+    ap (λ last. course_then (port_taken spot slot last now) (placeless judge)) is
+    ∙ waits_by spot slot before now judge.found judge.finding (state_of judge) (judge.found == 0) refl
     (neither (is_some judge.watch) (not (judge.found == 0)) (sym same ∙ not_begun))
     )
 
 -- a port whose access is judged
-pub takes_judged : (old new : Judge) (slot : ℕ) (last : Option Port) (before now : Port) (begun : Bool) (result : Result Bool AllocError)
-    → last ≡ Some before → begun ≡ (is_some old.watch || not (old.found == 0)) → begun ≡ true
-    → IfOk result (Takes old new (done_taken slot (local_between before now))) → IfOk result (Takes old new (port_taken slot last now))
+pub takes_judged : (old new : Judge) (spot : Spot) (slot : ℕ) (last : Option Port) (before now : Port) (begun : Bool)
+    (result : Result Bool AllocError) → last ≡ Some before → begun ≡ (is_some old.watch || not (old.found == 0)) → begun ≡ true
+    → IfOk result (Takes old new (done_taken spot slot (local_between before now))) → IfOk result (Takes old new (port_taken spot slot last now))
 unfolding standing
-takes_judged old new slot last before now begun (Err fault) is same has_begun takes = tt
-takes_judged old new slot last before now begun (Ok goes_on) is same has_begun takes =
-    takes_as old new (done_taken slot (local_between before now)) (port_taken slot last now) goes_on (
-    judges_by slot before now old.found old.finding (state_of old) (old.found == 0) refl (sym same ∙ has_begun)
-    ∙ ap (λ last. option_and_then (port_taken slot last now) (standing old)) (sym is)
+takes_judged old new spot slot last before now begun (Err fault) is same has_begun takes = tt
+takes_judged old new spot slot last before now begun (Ok goes_on) is same has_begun takes =
+    takes_as old new (done_taken spot slot (local_between before now)) (port_taken spot slot last now) goes_on (
+    judges_by spot slot before now old.found old.finding (state_of old) (old.found == 0) refl (sym same ∙ has_begun)
+    ∙ ap (λ last. course_then (port_taken spot slot last now) (placeless old)) (sym is)
     ) takes
 
 -- a port that has shown nothing
-pub port_first : (m : Option Standing) (slot : ℕ) (now : Port) → option_and_then (port_taken slot None now) m ≡ m
-port_first None slot now = refl
-port_first (Some m) slot now = refl
+pub port_first : (c : Course) (spot : Spot) (slot : ℕ) (now : Port) → course_then (port_taken spot slot None now) c ≡ c
+port_first (Falls found) spot slot now = refl
+port_first (Stands m) spot slot now = refl
 
 -- no slot is among none
 none_among : (place : ℕ) → is_among 0 place ≡ false
 none_among place = ap (λ n. not (bit_and n 1 == 0)) (zero-div (2 ^ (place % 32)))
 
 -- ports of which none has changed
-none_taken : (lines : BusLines) (place : ℕ) (ports : List (Option Port)) (m : Standing) → ports_taken lines 0 place ports m ≡ Some m
-none_taken lines place [] m = refl
-none_taken lines place (last ∷ ports) m =
-    ap (λ test. option_and_then (ports_taken lines 0 (place + 1) ports)
-    (let r : Option Standing = if test then port_taken (place + 1) last (port_at lines place) m else Some m in r)) (none_among place)
-    ∙ none_taken lines (place + 1) ports m
+none_taken : (spot : Spot) (lines : BusLines) (place : ℕ) (ports : List (Option Port)) (m : Standing) → ports_taken spot lines 0 place ports m ≡ Stands m
+none_taken spot lines place [] m = refl
+none_taken spot lines place (last ∷ ports) m =
+    ap (λ test. course_then (ports_taken spot lines 0 (place + 1) ports)
+    (let r : Course = if test then port_taken spot (place + 1) last (port_at lines place) m else Stands m in r)) (none_among place)
+    ∙ none_taken spot lines (place + 1) ports m
 
 -- if no slot has changed, the ports have shown what they had
 pub none_after_all : (lines : BusLines) (place : ℕ) (ports : List (Option Port)) → ports_after lines 0 place ports ≡ ports
@@ -238,34 +307,35 @@ none_after_all lines place (last ∷ ports) =
     ∙ ap (λ ports. last ∷ ports) (none_after_all lines (place + 1) ports)
 
 -- no port is taken
-no_port : (lines : BusLines) (place : ℕ) (ports : List (Option Port)) (m : Option Standing)
-    → option_and_then (ports_taken lines 0 place ports) m ≡ m
-no_port lines place ports None = refl
-no_port lines place ports (Some m) = none_taken lines place ports m
+no_port : (spot : Spot) (lines : BusLines) (place : ℕ) (ports : List (Option Port)) (c : Course)
+    → course_then (ports_taken spot lines 0 place ports) c ≡ c
+no_port spot lines place ports (Falls found) = refl
+no_port spot lines place ports (Stands m) = none_taken spot lines place ports m
 
 -- a judgement that takes no port
-pub takes_none : (judge : Judge) (lines : BusLines) (changed place : ℕ) (ports : List (Option Port)) → changed ≡ 0
-    → Takes judge judge (ports_taken lines changed place ports) true
-takes_none judge lines changed place ports none =
-    takes_nothing judge (ports_taken lines changed place ports) (
-    ap (λ changed. option_and_then (ports_taken lines changed place ports) (standing judge)) none ∙ no_port lines place ports (standing judge)
+pub takes_none : (judge : Judge) (spot : Spot) (lines : BusLines) (changed place : ℕ) (ports : List (Option Port)) → changed ≡ 0
+    → Takes judge judge (ports_taken spot lines changed place ports) true
+takes_none judge spot lines changed place ports none =
+    takes_nothing judge (ports_taken spot lines changed place ports) (
+    ap (λ changed. course_then (ports_taken spot lines changed place ports) (placeless judge)) none
+    ∙ no_port spot lines place ports (placeless judge)
     )
 
 -- no port is left
-takes_all : (lines : BusLines) (changed place : ℕ) (m : Option Standing) → option_and_then (ports_taken lines changed place []) m ≡ m
-takes_all lines changed place None = refl
-takes_all lines changed place (Some m) = refl
+takes_all : (spot : Spot) (lines : BusLines) (changed place : ℕ) (c : Course) → course_then (ports_taken spot lines changed place []) c ≡ c
+takes_all spot lines changed place (Falls found) = refl
+takes_all spot lines changed place (Stands m) = refl
 
 -- a port that has not changed: what is remembered
-pub skips_port : (lines : BusLines) (changed place : ℕ) (ports : List (Option Port)) (m : Option Standing) → place < length ports
+pub skips_port : (spot : Spot) (lines : BusLines) (changed place : ℕ) (ports : List (Option Port)) (c : Course) → place < length ports
     → is_among changed place ≡ false
-    → option_and_then (ports_taken lines changed place (drop place ports)) m
-    ≡ option_and_then (ports_taken lines changed (place + 1) (drop (place + 1) ports)) m
-skips_port lines changed place ports None less is = refl
-skips_port lines changed place ports (Some m) less is =
-    ap (λ ports. ports_taken lines changed place ports m) (drop_more ports place None less)
-    ∙ ap (λ test. option_and_then (ports_taken lines changed (place + 1) (drop (place + 1) ports))
-    (let r : Option Standing = if test then port_taken (place + 1) (get_or ports place None) (port_at lines place) m else Some m in r)) is
+    → course_then (ports_taken spot lines changed place (drop place ports)) c
+    ≡ course_then (ports_taken spot lines changed (place + 1) (drop (place + 1) ports)) c
+skips_port spot lines changed place ports (Falls found) less is = refl
+skips_port spot lines changed place ports (Stands m) less is =
+    ap (λ ports. ports_taken spot lines changed place ports m) (drop_more ports place None less)
+    ∙ ap (λ test. course_then (ports_taken spot lines changed (place + 1) (drop (place + 1) ports))
+    (let r : Course = if test then port_taken spot (place + 1) (get_or ports place None) (port_at lines place) m else Stands m in r)) is
 
 -- what it has shown
 pub skips_shown : (lines : BusLines) (changed place : ℕ) (ports : List (Option Port)) → place < length ports → is_among changed place ≡ false
@@ -279,16 +349,16 @@ skips_shown lines changed place ports less is =
     ∙ ap (λ start. start ++ ports_after lines changed (place + 1) (drop (place + 1) ports)) (sym (take_more ports place None less))
 
 -- no ports are left: what is remembered
-pub ports_ended : (old new : Judge) (lines : BusLines) (changed place : ℕ) (last ports : List (Option Port)) → length ports ≤ place
-    → option_and_then (ports_taken lines changed 0 last) (standing old)
-    ≡ option_and_then (ports_taken lines changed place (drop place ports)) (standing new)
-    → new.options ≡ old.options → (IsOnce old → IsSome (standing old) → IsOnce new × IsSome (standing new))
-    → Takes old new (ports_taken lines changed 0 last) true
-ports_ended old new lines changed place last ports all judged options once = record {
+pub ports_ended : (old new : Judge) (spot : Spot) (lines : BusLines) (changed place : ℕ) (last ports : List (Option Port)) → length ports ≤ place
+    → course_then (ports_taken spot lines changed 0 last) (placeless old)
+    ≡ course_then (ports_taken spot lines changed place (drop place ports)) (placeless new)
+    → new.options ≡ old.options → (IsOnce old → IsStanding (standing old) → IsOnce new × IsStanding (standing new))
+    → Takes old new (ports_taken spot lines changed 0 last) true
+ports_ended old new spot lines changed place last ports all judged options once = record {
   judged = sym (
       judged
-      ∙ ap (λ ports. option_and_then (ports_taken lines changed place ports) (standing new)) (drop_of_length-le ports all)
-      ∙ takes_all lines changed place (standing new)
+      ∙ ap (λ ports. course_then (ports_taken spot lines changed place ports) (placeless new)) (drop_of_length-le ports all)
+      ∙ takes_all spot lines changed place (placeless new)
       );
   stops = λ is. absurd (cc is);
   options = options;

@@ -7,7 +7,7 @@ use Rattle.vme_judge.specs.declared.fault.Status.{Status}
 use Rattle.vme_judge.specs.declared.options.Options.{Options}
 use Rattle.vme_judge.specs.declared.run.Run.{Run}
 use Rattle.vme_judge.specs.Logs.{status_of}
-use Rattle.vme_judge.specs.Runs.{run_so_far, log_whole, form_after, is_no_dump, IsGoing, IsJudgedAs, IsOnceRun, TakesLog}
+use Rattle.vme_judge.specs.Runs.{run_so_far, log_whole, form_after, is_no_dump, IsGoing, IsJudgedAs, IsOnceRun, StaysFound, TakesLog}
 use Rattle.vme_judge.specs.Standing.{standing}
 use Rattle.vme_judge.specs.Verdicts.{is_log, IsStatusOf}
 use Rattle.vme_judge.proofs.Pieces.{Between, between_more, between_stops, between_ends}
@@ -52,7 +52,7 @@ stops_after o boards whole left next run new bytes piece goes_on result between 
 pub ends_after : (o : Options) (boards : List Board) (whole left next : Option (List ℕ)) (run new : Run) (result : Result Status JudgeFault)
     → Between o boards whole left run → Consumes left next [] → IsAtEnd next
     → (is_no_dump run.kind ≡ true → IsJudgedAs (log_whole run []) (run_so_far new) (standing new.judge))
-    → (is_no_dump run.kind ≡ true → standing run.judge ≡ None → standing new.judge ≡ None)
+    → (is_no_dump run.kind ≡ true → StaysFound run new)
     → (is_no_dump run.kind ≡ true → IsOnceRun run → IsGoing run → IsOnceRun new)
     → IfOk result (λ status. status ≡ status_of (run_so_far new))
     → IfSome whole (λ text. is_log text ≡ true → IfOk result (IsStatusOf o boards text))

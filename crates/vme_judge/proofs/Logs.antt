@@ -1,87 +1,121 @@
 -- The samples of a line of a log, taken one after another.
-use Rattle.std.proofs.Common.{◌≡◌, ℕ, ◌+◌, ◌<◌, Bool, false, suc, List, [], ◌∷◌, ◌++◌, length, get_or, drop, drop-cons, add-one, Option, Some, None, Result, Ok, Err, IfOk, IsSome, is_some, refl, ap, sym, ◌∙◌}
-use Rattle.std.specs.Option.{option_and_then}
+use Rattle.std.proofs.Common.{◌≡◌, ℕ, ◌+◌, ◌<◌, Bool, true, false, suc, List, [], ◌∷◌, length, get_or, drop, drop-cons, add-one, Option, None, Result, Ok, Err, IfOk, refl, ap, sym, ◌∙◌}
 use Rattle.vme_protocol.specs.declared.sample.Sample.{Sample}
 use Rattle.vme_bus_log.specs.declared.entry.LogDatum.{LogDatum}
-use Rattle.vme_judge.specs.Standing.{Standing, sample_taken, samples_taken}
-use Rattle.vme_judge.specs.Logs.{shown_by, so_far}
+use Rattle.vme_judge.specs.declared.judge.Spot.{Spot}
+use Rattle.std.specs.Prelude.{if◌then◌else◌}
+use Rattle.vme_judge.specs.Logs.{addressed_by, begun_by, shown_by, so_far}
+use Rattle.vme_judge.specs.Samples.{handshake_samples, quiet}
+use Rattle.vme_judge.specs.Standing.{Course, Falls, HasFallen, IsStanding, Standing, Stands, course_map, course_then, sample_taken, samples_taken, stands}
 
 -- one sample and those after it
-pub one_more : (s : Sample) (rest : List Sample) (m : Option Standing)
-    → option_and_then (samples_taken (s ∷ rest)) m ≡ option_and_then (samples_taken rest) (option_and_then (sample_taken s) m)
-one_more s rest None = refl
-one_more s rest (Some m) = refl
+pub one_more : (spot : Spot) (s : Sample) (rest : List Sample) (c : Course)
+    → course_then (samples_taken spot (s ∷ rest)) c ≡ course_then (samples_taken spot rest) (course_then (sample_taken spot None s) c)
+one_more spot s rest (Falls found) = refl
+one_more spot s rest (Stands m) = refl
 
--- samples and those after them
-pub and_more : (samples more : List Sample) (m : Option Standing)
-    → option_and_then (samples_taken (samples ++ more)) m ≡ option_and_then (samples_taken more) (option_and_then (samples_taken samples) m)
-and_more [] more None = refl
-and_more [] more (Some m) = refl
-and_more (s ∷ samples) more m =
-    one_more s (samples ++ more) m ∙ and_more samples more (option_and_then (sample_taken s) m)
-    ∙ ap (option_and_then (samples_taken more)) (sym (one_more s samples m))
+-- one thing after another
+pub one_after : (f g : Standing → Course) (c : Course) → course_then g (course_then f c) ≡ course_then (λ m. course_then g (f m)) c
+one_after f g (Falls found) = refl
+one_after f g (Stands m) = refl
 
 -- the samples that are left after one more
-pub left_after : (samples : List Sample) (i : ℕ) (s : Sample) (old new : Option Standing) → i < length samples → s ≡ get_or samples i s
-    → new ≡ option_and_then (sample_taken s) old
-    → option_and_then (samples_taken (drop (i + 1) samples)) new ≡ option_and_then (samples_taken (drop i samples)) old
-left_after samples i s old new less is taken =
+pub left_after : (spot : Spot) (samples : List Sample) (i : ℕ) (s : Sample) (old new : Course) → i < length samples → s ≡ get_or samples i s
+    → new ≡ course_then (sample_taken spot None s) old
+    → course_then (samples_taken spot (drop (i + 1) samples)) new ≡ course_then (samples_taken spot (drop i samples)) old
+left_after spot samples i s old new less is taken =
     let next : drop i samples ≡ s ∷ drop (i + 1) samples =
     rw add-one (drop-cons samples i s less ∙ ap (λ x. x ∷ drop (suc i) samples) (sym is)) in
-    ap (option_and_then (samples_taken (drop (i + 1) samples))) taken
-    ∙ sym (ap (λ list. option_and_then (samples_taken list) old) next ∙ one_more s (drop (i + 1) samples) old)
+    ap (course_then (samples_taken spot (drop (i + 1) samples))) taken
+    ∙ sym (ap (λ list. course_then (samples_taken spot list) old) next ∙ one_more spot s (drop (i + 1) samples) old)
 
--- nothing is remembered if there is nothing
-no_standing : (m : Option Standing) → false ≡ is_some m → m ≡ None
-no_standing None none = refl
-no_standing (Some m) none = absurd (cc none)
+-- a trace does not stand that is called illegal
+pub no_standing : (old new : Course) (legal : Bool) → legal ≡ false → (IsStanding old → legal ≡ stands new) → (HasFallen old → new ≡ old) → HasFallen new
+no_standing (Stands m) new legal illegal says same = sym (says refl) ∙ illegal
+no_standing (Falls found) new legal illegal says same = ap stands (same refl)
 
--- nothing is remembered after an illegal sample
-pub none_after : (s : Sample) (old new : Option Standing) (legal : Bool) → legal ≡ false → new ≡ option_and_then (sample_taken s) old
-    → (IsSome old → legal ≡ is_some new) → new ≡ None
-none_after s None new legal illegal taken says = taken
-none_after s (Some m) new legal illegal taken says = no_standing new (sym illegal ∙ says refl)
+-- a trace that has fallen takes nothing further
+pub then_fallen : (f : Standing → Course) (c : Course) → HasFallen c → course_then f c ≡ c
+then_fallen f (Stands m) fell = absurd (cc fell)
+then_fallen f (Falls found) fell = refl
 
--- after an illegal sample of a list nothing is remembered of all
-pub all_none : (samples : List Sample) (m all : Option Standing) → m ≡ None → option_and_then (samples_taken samples) m ≡ all → m ≡ all
-all_none samples m all none is = none ∙ sym (ap (option_and_then (samples_taken samples)) none) ∙ is
+-- nor is what is remembered of it changed
+pub map_fallen : (f : Standing → Standing) (c : Course) → HasFallen c → course_map f c ≡ c
+map_fallen f (Stands m) fell = absurd (cc fell)
+map_fallen f (Falls found) fell = refl
 
--- after illegal samples nothing is remembered
-pub none_then : (samples : List Sample) (old new : Option Standing) (legal : Bool) → legal ≡ false
-    → new ≡ option_and_then (samples_taken samples) old → (IsSome old → legal ≡ is_some new) → new ≡ None
-none_then samples None new legal illegal taken says = taken
-none_then samples (Some m) new legal illegal taken says = no_standing new (sym illegal ∙ says refl)
+-- a trace after an illegal sample has fallen
+pub fell_after : (f : Standing → Course) (old new : Course) (legal : Bool) → legal ≡ false → new ≡ course_then f old
+    → (IsStanding old → legal ≡ stands new) → HasFallen new
+fell_after f (Stands m) new legal illegal taken says = sym (says refl) ∙ illegal
+fell_after f (Falls found) new legal illegal taken says = ap stands taken
+
+-- after an illegal sample of a list the others change nothing
+pub all_fallen : (spot : Spot) (samples : List Sample) (c all : Course) → HasFallen c → course_then (samples_taken spot samples) c ≡ all → c ≡ all
+all_fallen spot samples c all fell is = sym (then_fallen (samples_taken spot samples) c fell) ∙ is
 
 -- a log after legal samples
-pub shown_legal : (m n : Option Standing) (d : Option LogDatum) → m ≡ n → so_far false m d ≡ shown_by d n
-shown_legal None n d is = ap (shown_by d) is
-shown_legal (Some m) n d is = ap (shown_by d) is
+pub shown_legal : (c n : Course) (d : Option LogDatum) → c ≡ n → so_far false c d ≡ shown_by d n
+shown_legal (Falls found) n d is = ap (shown_by d) is
+shown_legal (Stands m) n d is = ap (shown_by d) is
 
 -- a log after illegal ones
-pub shown_illegal : (m n : Option Standing) (last d : Option LogDatum) (broken : Bool) → broken ≡ false → m ≡ None → m ≡ n
-    → so_far broken m last ≡ shown_by d n
-shown_illegal m n last d broken whole none is =
-    ap (λ test. so_far test m last) whole ∙ ap (λ m. so_far false m last) none ∙ ap (shown_by d) (sym none ∙ is)
+pub shown_illegal : (c n : Course) (last d : Option LogDatum) (broken : Bool) → broken ≡ false → HasFallen c → c ≡ n
+    → so_far broken c last ≡ shown_by d n
+shown_illegal (Stands m) n last d broken whole fell is = absurd (cc fell)
+shown_illegal (Falls found) n last d broken whole fell is = ap (λ test. so_far test (Falls found) last) whole ∙ ap (shown_by d) is
 
--- what is remembered of samples that open a transfer and those of its datum
-pub opened_then : (opening samples : List Sample) (old mid new : Option Standing) → mid ≡ option_and_then (samples_taken opening) old
-    → new ≡ option_and_then (samples_taken samples) mid → new ≡ option_and_then (samples_taken (opening ++ samples)) old
-opened_then opening samples old mid new opens takes =
-    takes ∙ ap (option_and_then (samples_taken samples)) opens ∙ sym (and_more opening samples old)
+-- a course after two parts, of which the second is taken after the first
+pub both_taken : (f g : Standing → Course) (old mid new : Course) → mid ≡ course_then f old → new ≡ course_then g mid
+    → new ≡ course_then (λ m. course_then g (f m)) old
+both_taken f g old mid new one two = two ∙ ap (course_then g) one ∙ one_after f g old
 
--- nothing is remembered after an illegal opening
-pub opened_none : (opening samples : List Sample) (old mid : Option Standing) → mid ≡ None → mid ≡ option_and_then (samples_taken opening) old
-    → mid ≡ option_and_then (samples_taken (opening ++ samples)) old
-opened_none opening samples old mid none opens =
-    opened_then opening samples old mid mid opens (none ∙ sym (ap (option_and_then (samples_taken samples)) none))
+-- the second part of one that has fallen changes nothing
+pub first_fallen : (f g : Standing → Course) (old mid : Course) → HasFallen mid → mid ≡ course_then f old
+    → mid ≡ course_then (λ m. course_then g (f m)) old
+first_fallen f g old mid fell one = both_taken f g old mid mid one (sym (then_fallen g mid fell))
+
+-- what is remembered after a part is changed
+pub map_taken : (f : Standing → Course) (g : Standing → Standing) (c : Course)
+    → course_map g (course_then f c) ≡ course_then (λ m. course_map g (f m)) c
+map_taken f g (Falls found) = refl
+map_taken f g (Stands m) = refl
+
+-- no samples change nothing
+then_none : (spot : Spot) (c : Course) → course_then (samples_taken spot []) c ≡ c
+then_none spot (Falls found) = refl
+then_none spot (Stands m) = refl
+
+-- a transfer without an address phase
+pub addressed_short : (spot : Spot) (d : LogDatum) (c : Course) → d.is_wide ≡ false
+    → course_then (begun_by spot d) c ≡ course_then (addressed_by spot d) c
+addressed_short spot d (Falls found) short = refl
+addressed_short spot d (Stands m) short =
+    sym (
+    ap (λ wide. let samples : List Sample = if wide then handshake_samples d (quiet d false) true else [] in
+    course_then (samples_taken spot samples) (begun_by spot d m)) short
+    ∙ then_none spot (begun_by spot d m)
+    )
+
+-- a transfer with an address phase
+pub addressed_wide : (spot : Spot) (d : LogDatum) (s : Sample) (old mid new : Course) → d.is_wide ≡ true → s ≡ quiet d false
+    → mid ≡ course_then (begun_by spot d) old → new ≡ course_then (samples_taken spot (handshake_samples d s true)) mid
+    → new ≡ course_then (addressed_by spot d) old
+addressed_wide spot d s old mid new wide is one two =
+    two
+    ∙ ap (λ s. course_then (samples_taken spot (handshake_samples d s true)) mid) is
+    ∙ ap (course_then (samples_taken spot (handshake_samples d (quiet d false) true))) one
+    ∙ one_after (begun_by spot d) (samples_taken spot (handshake_samples d (quiet d false) true)) old
+    ∙ sym (ap (λ wide. let samples : List Sample = if wide then handshake_samples d (quiet d false) true else [] in
+    course_then (λ m. course_then (samples_taken spot samples) (begun_by spot d m)) old) wide)
 
 -- a result that holds of each value
 pub if_ok : {T E : Type 0} (P Q : T → Type 0) (result : Result T E) → IfOk result P → ((value : T) → P value → Q value) → IfOk result Q
-if_ok P Q (Ok value) holds then = then value holds
-if_ok P Q (Err fault) holds then = tt
+if_ok P Q (Ok value) holds goes = goes value holds
+if_ok P Q (Err fault) holds goes = tt
 
 -- a result that holds of each value by two facts
 pub if_ok_both : {T E : Type 0} (P Q R : T → Type 0) (result : Result T E) → IfOk result P → IfOk result Q
     → ((value : T) → P value → Q value → R value) → IfOk result R
-if_ok_both P Q R (Ok value) one two then = then value one two
-if_ok_both P Q R (Err fault) one two then = tt
+if_ok_both P Q R (Ok value) one two goes = goes value one two
+if_ok_both P Q R (Err fault) one two goes = tt

@@ -15,10 +15,10 @@ use Rattle.vme_judge.specs.declared.options.Options.{Options}
 use Rattle.vme_judge.specs.declared.run.Kind.{Kind}
 use Rattle.vme_judge.specs.declared.run.Kind.TheVariants as kinds
 use Rattle.vme_judge.specs.declared.run.Run.{Run}
-use Rattle.vme_judge.specs.Logs.{LogSoFar, Legal, Illegal, so_far, log_taken, status_of}
+use Rattle.vme_judge.specs.Logs.{LogSoFar, Legal, Illegal, is_illegal, so_far, log_taken, status_of}
 use Rattle.vme_judge.specs.Openings.{opening}
 use Rattle.vme_judge.specs.Runs.{run_so_far, log_whole, form_after, is_no_dump, IsGoing, IsJudgedAs, IsOnceRun, IsOver, Judges, RunsOnce, StaysFound, TakesLog}
-use Rattle.vme_judge.specs.Standing.{Standing, standing}
+use Rattle.vme_judge.specs.Standing.{Course, Falls, Found, Standing, Stands, standing, stands}
 use Rattle.vme_judge.specs.Verdicts.{is_space, is_log, log_of, IsStatusOf}
 use Rattle.vme_judge.proofs.Runs.{judged_on, judged_same}
 
@@ -58,9 +58,9 @@ no_dump_before kinds.Log rest is = refl
 no_dump_before kinds.Unknown rest is = refl
 
 -- a log before its first line
-pub opens_as : (m : Option Standing) (opened : Standing) (last : Option LogDatum) → m ≡ Some opened → last ≡ None
-    → so_far false m last ≡ Legal opened None
-opens_as m opened last is none = ap (λ m. so_far false m last) is ∙ ap (Legal opened) none
+pub opens_as : (c : Course) (opened : Standing) (last : Option LogDatum) → c ≡ Stands opened → last ≡ None
+    → so_far false c last ≡ Legal opened None
+opens_as c opened last is none = ap (λ c. so_far false c last) is ∙ ap (Legal opened) none
 
 module _ (old new : Run) (bytes : List ℕ) (result : Result Bool AllocError) where
   -- what a call states of bytes of a log and its runs
@@ -129,14 +129,15 @@ Between o boards (Some text) (Some rest) run = is_log text ≡ true → IsBetwee
 -- a run before the first byte
 pub between_begins : (o : Options) (boards : List Board) (whole : Option (List ℕ)) (run : Run)
     → run_so_far run ≡ Legal (opening o boards) None → IsGoing run → run.judge.options.now.limit ≡ o.limit → run.judge.found ≡ 0
-    → run.log.line ≡ [] → run.kind ≡ kinds.Unknown → Between o boards whole whole run
+    → run.log.line ≡ [] → run.log.number ≡ 1 → run.kind ≡ kinds.Unknown → Between o boards whole whole run
 unfolding log_of
-between_begins o boards None run opens going limit found line kind = tt
-between_begins o boards (Some text) run opens going limit found line kind = λ log. record {
+between_begins o boards None run opens going limit found line number kind = tt
+between_begins o boards (Some text) run opens going limit found line number kind = λ log. record {
   kind = ap (λ kind. form_after kind text) kind;
   judged = inl (
-      ap (λ log. log_taken log (log_says (run.log.line ++ text))) opens
-      ∙ ap (λ line. log_taken (Legal (opening o boards) None) (log_says (line ++ text))) line
+      ap (λ log. log_taken log run.log.number (log_says (run.log.line ++ text))) opens
+      ∙ ap (λ n. log_taken (Legal (opening o boards) None) n (log_says (run.log.line ++ text))) number
+      ∙ ap (λ line. log_taken (Legal (opening o boards) None) 1 (log_says (line ++ text))) line
       );
   once = λ one. (((limit ∙ one, found), λ none. going.1), going);
 }
@@ -199,11 +200,11 @@ between_more o boards (Some text) (Some rest) (Some next) run new piece between 
     (takes (piece_log run text rest piece next log (between log).kind is))
 
 -- the status of a log of which something was found, where more may be asked for
-found_status : (limit : ℕ) (log : LogSoFar) (rejected : Bool) (last : Option LogDatum) (status : Status) → limit ≢ 1 → log ≡ Illegal
-    → status ≡ status_of (so_far rejected None last)
-    → (status ≡ status_of log) ⊎ ((limit ≢ 1) × (log ≡ Illegal) × (status ≡ statuses.Rejected))
-found_status limit log true last status more illegal is = inr (more, illegal, is)
-found_status limit log false last status more illegal is = inl (is ∙ sym (ap status_of illegal))
+found_status : (limit : ℕ) (log : LogSoFar) (found : Option Found) (rejected : Bool) (last : Option LogDatum) (status : Status) → limit ≢ 1
+    → log ≡ Illegal found → status ≡ status_of (so_far rejected (Falls found) last)
+    → (status ≡ status_of log) ⊎ ((limit ≢ 1) × (is_illegal log ≡ true) × (status ≡ statuses.Rejected))
+found_status limit log found true last status more illegal is = inr (more, ap is_illegal illegal, is)
+found_status limit log found false last status more illegal is = inl (is ∙ sym (ap status_of illegal))
 
 -- the status of a run is that of the log that it has judged
 status_is : (o : Options) (boards : List Board) (text : List ℕ) (run : Run) (status : Status)
@@ -216,13 +217,14 @@ status_is o boards text run status (inr found) once is =
       | inl one ↦
           inl (
           is
-          ∙ ap (λ m. status_of (so_far (is_some run.rejection) m run.state.last)) found.1
-          ∙ ap (λ rejection. status_of (so_far (is_some rejection) None run.state.last)) ((once (eqb-true o.limit 1 one)).1 found.1)
-          ∙ sym (ap status_of found.0)
+          ∙ ap (λ c. status_of (so_far (is_some run.rejection) c run.state.last)) found.2
+          ∙ ap (λ rejection. status_of (so_far (is_some rejection) (Falls found.0) run.state.last))
+          ((once (eqb-true o.limit 1 one)).1 (ap stands found.2))
+          ∙ sym (ap status_of found.1)
           )
       | inr more ↦
-          found_status o.limit (log_of o boards text) (is_some run.rejection) run.state.last status (eqb-false o.limit 1 more) found.0
-          (is ∙ ap (λ m. status_of (so_far (is_some run.rejection) m run.state.last)) found.1)
+          found_status o.limit (log_of o boards text) found.0 (is_some run.rejection) run.state.last status (eqb-false o.limit 1 more) found.1
+          (is ∙ ap (λ c. status_of (so_far (is_some run.rejection) c run.state.last)) found.2)
     ]
 
 -- a reader's piece after which the run stops
@@ -237,14 +239,14 @@ between_stops o boards (Some text) (Some rest) (Some next) run new piece status 
     let took = takes (piece_log run text rest piece next log (between log).kind is) in
     status_is o boards text new status
     (judged_same _ _ _ _ _ (piece_judged o boards run new text rest piece next false (between log) is took)
-    (took.stops refl (log_says (new.log.line ++ next))) refl)
+    (took.stops refl new.log.number (log_says (new.log.line ++ next))) refl)
     (λ one. let was = (between log).once one in (took.once was.0 was.1).0) says
 
 -- the end of a reader's bytes
 pub between_ends : (o : Options) (boards : List Board) (whole left next : Option (List ℕ)) (run new : Run) (status : Status)
     → Between o boards whole left run → Consumes left next [] → IsAtEnd next
     → (is_no_dump run.kind ≡ true → IsJudgedAs (log_whole run []) (run_so_far new) (standing new.judge))
-    → (is_no_dump run.kind ≡ true → standing run.judge ≡ None → standing new.judge ≡ None)
+    → (is_no_dump run.kind ≡ true → StaysFound run new)
     → (is_no_dump run.kind ≡ true → IsOnceRun run → IsGoing run → IsOnceRun new) → status ≡ status_of (run_so_far new)
     → IfSome whole (λ text. is_log text ≡ true → IsStatusOf o boards text status)
 between_ends o boards None left next run new status between is end judges stays once says = tt

@@ -6,11 +6,10 @@ use Rattle.vme_vcd_reader.specs.Headers.{beginning}
 use Rattle.vme_vcd_reader.specs.Readers.{IsHeader}
 use Rattle.vme_judge.specs.declared.run.Kind.TheVariants as kinds
 use Rattle.vme_judge.specs.declared.run.Run.{Run}
-use Rattle.vme_judge.specs.DumpRuns.{InHeader, HasReached, IsDumpJudgedAs, IsUnjudged, Reached, dump_so_far, text_whole}
+use Rattle.vme_judge.specs.DumpRuns.{DumpStays, InHeader, HasReached, IsDumpJudgedAs, IsUnjudged, Reached, dump_so_far, placeless, text_whole}
 use Rattle.vme_judge.specs.Dumps.{DumpSoFar, Broken}
 use Rattle.vme_judge.specs.DumpTexts.{has_long_blanks}
-use Rattle.vme_judge.specs.Runs.{form_after, RunsOnce, StaysFound}
-use Rattle.vme_judge.specs.Standing.{standing}
+use Rattle.vme_judge.specs.Runs.{form_after, RunsOnce}
 
 -- all bytes are blanks: the form of a trace that begins with them is not known yet
 abbrev pub AreBlanks : List ℕ → Type 0
@@ -66,8 +65,8 @@ pub record ReadsFirst (map : Map) (line : List ℕ) (old new : Run) (bytes : Lis
 -- a run has taken the first bytes of a dump, after blanks of a line
 pub record BeginsDump (map : Map) (line : List ℕ) (old new : Run) (bytes : List ℕ) (goes_on : Bool) : Type 0 where
   pub reads : goes_on ≡ true → ReadsFirst map line old new bytes
-  pub stops : goes_on ≡ false → (rest : List ℕ) → IsDumpJudgedAs (blanks_whole map line old (bytes ++ rest)) (dump_so_far new) (standing new.judge)
-  pub stays : StaysFound old new
+  pub stops : goes_on ≡ false → (rest : List ℕ) → IsDumpJudgedAs (blanks_whole map line old (bytes ++ rest)) (dump_so_far new) (placeless new.judge)
+  pub stays : DumpStays old new
   pub once : RunsOnce old new goes_on
 
 -- a run whose trace had blanks alone has taken bytes of a dump, whose form is known then

@@ -1,6 +1,6 @@
 -- A dump that is judged while it is read.
-use Rattle.std.specs.Prelude.{◌≡◌, ℕ, Bool, true, false, ◌⊎◌, List, [], ◌++◌, Option, Some, None, is_some, IsSome, ⊤}
-use Rattle.std.specs.Option.{option_and_then, option_map}
+use Rattle.std.specs.Prelude.{◌≡◌, ℕ, Bool, true, false, ◌⊎◌, List, [], ◌++◌, Option, Some, None, is_some, ⊤}
+use Rattle.std.specs.Option.{option_map}
 use Rattle.vme_line_map.specs.Variables.{Map}
 use Rattle.vme_protocol.specs.declared.port.Port.{Port}
 use Rattle.vme_vcd_reader.specs.declared.reader.VcdReader.{VcdReader}
@@ -14,17 +14,30 @@ use Rattle.vme_judge.specs.declared.run.Kind.TheVariants as kinds
 use Rattle.vme_judge.specs.declared.run.Run.{Run}
 use Rattle.vme_judge.specs.Dumps.{DumpSoFar, Illegal, Broken, dump_by, dump_taken, next_shown, with_presence}
 use Rattle.vme_judge.specs.DumpTexts.{header_judged}
-use Rattle.vme_judge.specs.Runs.{IsGoing, IsOnceRun, RunsOnce, StaysFound}
-use Rattle.vme_judge.specs.Standing.{Standing, standing, IsOnce}
+use Rattle.vme_judge.specs.Runs.{IsGoing, IsOnceRun, RunsOnce}
+use Rattle.vme_judge.specs.Standing.{Course, Falls, Found, HasFallen, IsStanding, Standing, Stands, course_map, course_then, standing, IsOnce}
+
+-- a finding without its line in the dump, and without the line of the bus that is undefined
+abbrev pub unplaced : Found → Found
+unplaced f = record f { finding = record f.finding { line = 0; undefined = None } }
+
+-- a course without them
+abbrev pub placeless_of : Course → Course
+placeless_of (Stands m) = Stands m
+placeless_of (Falls found) = Falls (option_map unplaced found)
+
+-- a dump as far as a judgement has it, without them
+abbrev pub placeless : Judge → Course
+placeless j = placeless_of (standing j)
 
 -- a judgement for one finding stays one, and if it goes on, it has found nothing
 abbrev pub JudgesOnce : Judge → Judge → Bool → Type 0
-JudgesOnce old new goes_on = IsOnce old → IsSome (standing old) → IsOnce new × (goes_on ≡ true → IsSome (standing new))
+JudgesOnce old new goes_on = IsOnce old → IsStanding (standing old) → IsOnce new × (goes_on ≡ true → IsStanding (standing new))
 
--- a judgement has taken something after which this is remembered; if it does not go on, something was found
-pub record Takes (old new : Judge) (taken : Standing → Option Standing) (goes_on : Bool) : Type 0 where
-  pub judged : standing new ≡ option_and_then taken (standing old)
-  pub stops : goes_on ≡ false → standing new ≡ None
+-- a judgement has taken something of a trace; if it does not go on, something was found
+pub record Takes (old new : Judge) (taken : Standing → Course) (goes_on : Bool) : Type 0 where
+  pub judged : placeless new ≡ course_then taken (placeless old)
+  pub stops : goes_on ≡ false → HasFallen (standing new)
   pub options : new.options ≡ old.options
   pub once : JudgesOnce old new goes_on
 
@@ -34,19 +47,23 @@ shown_by v = record { time = v.sample_time; lines = v.bus; changed = v.sample_is
 
 -- a judgement and what is remembered of local ports have taken a sample
 pub record TakesShown (old new : Judge) (last next : List (Option Port)) (shown : Shown) (goes_on : Bool) : Type 0 where
-  pub dump : dump_by (standing new) next ≡ next_shown old.options.now shown (dump_by (standing old) last)
-  pub stops : goes_on ≡ false → standing new ≡ None
+  pub dump : dump_by (placeless new) next ≡ next_shown old.options.now shown (dump_by (placeless old) last)
+  pub stops : goes_on ≡ false → HasFallen (standing new)
   pub options : new.options ≡ old.options
   pub once : JudgesOnce old new goes_on
 
--- a dump by whether it is rejected, what is remembered of it and of its local ports
-abbrev pub dump_at : Bool → Option Standing → List (Option Port) → DumpSoFar
-dump_at true m ports = Broken
-dump_at false m ports = dump_by m ports
+-- a dump by whether it is rejected, its course and what is remembered of its local ports
+abbrev pub dump_at : Bool → Course → List (Option Port) → DumpSoFar
+dump_at true c ports = Broken
+dump_at false c ports = dump_by c ports
 
 -- a dump as far as a run has judged it
 abbrev pub dump_so_far : Run → DumpSoFar
-dump_so_far r = dump_at (is_some r.rejection) (standing r.judge) r.ports.last
+dump_so_far r = dump_at (is_some r.rejection) (placeless r.judge) r.ports.last
+
+-- what was found in a dump stays found
+abbrev pub DumpStays : Run → Run → Type 0
+DumpStays old new = (found : Option Found) → placeless old.judge ≡ Falls found → placeless new.judge ≡ Falls found
 
 -- the whole dump, if this text of its body is left to read
 abbrev pub dump_whole : Run → Reading → List ℕ → DumpSoFar
@@ -72,9 +89,13 @@ abbrev pub IsUnjudged : DumpSoFar → Reached → Run → Type 0
 IsUnjudged d (InHeader h ds) run = dump_so_far run ≡ d
 IsUnjudged d (InBody r) run = ⊤
 
--- a dump is judged as it is, or it is illegal, and something was found: a run that goes on after a finding may reject it
-abbrev pub IsDumpJudgedAs : DumpSoFar → DumpSoFar → Option Standing → Type 0
-IsDumpJudgedAs dump judged m = (judged ≡ dump) ⊎ ((dump ≡ Illegal) × (m ≡ None))
+-- a dump is illegal, and this is found
+abbrev pub IsIllegalDump : DumpSoFar → Course → Type 0
+IsIllegalDump dump c = (found : Option Found) × (dump ≡ Illegal found) × (c ≡ Falls found)
+
+-- a dump is judged as it is, or it is illegal, and that is found: a run that goes on after a finding may reject it
+abbrev pub IsDumpJudgedAs : DumpSoFar → DumpSoFar → Course → Type 0
+IsDumpJudgedAs dump judged c = (judged ≡ dump) ⊎ IsIllegalDump dump c
 
 -- a run has judged these bytes of a dump, and reads on
 pub record ReadsOn (map : Map) (old new : Run) (reached : Reached) (bytes : List ℕ) : Type 0 where
@@ -85,13 +106,13 @@ pub record ReadsOn (map : Map) (old new : Run) (reached : Reached) (bytes : List
 
 -- a run that ends has judged the whole dump, if it is these bytes and this rest
 abbrev pub JudgesDump : Map → Run → Run → Reached → List ℕ → Type 0
-JudgesDump map old new reached text = IsDumpJudgedAs (text_whole map old reached text) (dump_so_far new) (standing new.judge)
+JudgesDump map old new reached text = IsDumpJudgedAs (text_whole map old reached text) (dump_so_far new) (placeless new.judge)
 
 -- a run has taken bytes of a dump: it reads on, or has judged the whole dump, whatever follows
 pub record TakesDump (map : Map) (old new : Run) (reached : Reached) (bytes : List ℕ) (goes_on : Bool) : Type 0 where
   pub reads : goes_on ≡ true → ReadsOn map old new reached bytes
   pub stops : goes_on ≡ false → (rest : List ℕ) → JudgesDump map old new reached (bytes ++ rest)
-  pub stays : StaysFound old new
+  pub stays : DumpStays old new
   pub once : RunsOnce old new goes_on
 
 -- a dump after the sample that a step completes, if it does
@@ -104,13 +125,13 @@ pub record TakesNext (old new : Run) (shown : Option Shown) (goes_on : Bool) : T
   pub dump : dump_so_far new ≡ next_if old.judge.options.now shown (dump_so_far old)
   pub reader : new.vcd ≡ old.vcd
   pub options : new.judge.options ≡ old.judge.options
-  pub stops : goes_on ≡ false → standing new.judge ≡ None
-  pub stays : StaysFound old new
+  pub stops : goes_on ≡ false → HasFallen (standing new.judge)
+  pub stays : DumpStays old new
   pub once : RunsOnce old new goes_on
 
 -- a run begins with the body of a dump: the header says which lines the dump has
 pub record BeginsBody (old new : Run) (goes_on : Bool) : Type 0 where
-  pub judged : standing new.judge ≡ option_map (with_presence old.vcd.presence) (standing old.judge)
+  pub judged : standing new.judge ≡ course_map (with_presence old.vcd.presence) (standing old.judge)
   pub reader : new.vcd ≡ old.vcd
   pub ports : new.ports ≡ old.ports
   pub rejection : new.rejection ≡ old.rejection
@@ -125,19 +146,19 @@ EndsOnce old new = IsOnceRun old → IsGoing old → IsOnceRun new
 -- a run has taken the last samples
 pub record TakesLast (old new : Run) (samples : Samples) : Type 0 where
   pub dump : dump_so_far new ≡ dump_taken old.judge.options.now (dump_so_far old) samples
-  pub stays : StaysFound old new
+  pub stays : DumpStays old new
   pub once : EndsOnce old new
 
 -- a run has judged a body that ends here
 pub record EndsDump (old new : Run) (r : Reading) : Type 0 where
-  pub judges : IsDumpJudgedAs (dump_whole old r []) (dump_so_far new) (standing new.judge)
-  pub stays : StaysFound old new
+  pub judges : IsDumpJudgedAs (dump_whole old r []) (dump_so_far new) (placeless new.judge)
+  pub stays : DumpStays old new
   pub once : EndsOnce old new
 
 -- a run has judged a dump that ends within its header: it has no sample, if it is one
 pub record EndsHeader (old new : Run) : Type 0 where
   pub dump : (dump_so_far new ≡ dump_so_far old) ⊎ (dump_so_far new ≡ Broken)
-  pub stays : StaysFound old new
+  pub stays : DumpStays old new
   pub once : EndsOnce old new
 
 -- a run has taken bytes of a dump, whose form is known

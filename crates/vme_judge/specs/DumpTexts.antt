@@ -1,5 +1,5 @@
 -- Which texts are legal dumps: a header, byte by byte, and the samples of the body that follows it.
-use Rattle.std.specs.Prelude.{◌≡◌, ◌≢◌, ℕ, ◌+◌, nat_lt, Bool, false, ◌==◌, ◌&&◌, ◌||◌, if◌then◌else◌, ◌⊎◌, List, [], ◌∷◌, ◌++◌, map as map_list, replicate, None, Result, Ok, Err}
+use Rattle.std.specs.Prelude.{◌≡◌, ◌≢◌, ℕ, ◌+◌, nat_lt, Bool, true, false, ◌==◌, ◌&&◌, ◌||◌, if◌then◌else◌, ◌⊎◌, List, [], ◌∷◌, ◌++◌, map as map_list, replicate, None, Result, Ok, Err}
 use Rattle.vme_line_map.specs.Variables.{Map}
 use Rattle.vme_vcd_reader.specs.declared.fault.VcdFault.{VcdFault}
 use Rattle.vme_vcd_reader.specs.declared.presence.Presence.{Presence}
@@ -15,7 +15,7 @@ use Rattle.vme_judge.specs.declared.boards.Board.{Board}
 use Rattle.vme_judge.specs.declared.fault.Status.{Status}
 use Rattle.vme_judge.specs.declared.fault.Status.TheVariants.{Rejected}
 use Rattle.vme_judge.specs.declared.options.Options.{Options}
-use Rattle.vme_judge.specs.Dumps.{DumpSoFar, Legal, Illegal, Broken, broken_off, dump_status, dump_taken, with_presence}
+use Rattle.vme_judge.specs.Dumps.{DumpSoFar, Legal, Illegal, Broken, is_illegal, broken_off, dump_status, dump_taken, with_presence}
 use Rattle.vme_judge.specs.Openings.{opening}
 use Rattle.vme_judge.specs.Verdicts.{is_space}
 
@@ -26,7 +26,7 @@ rows_with lines = map_list (λ line. record { identifier = line.0; mapped = line
 -- a dump at the end of its header, which says which lines it has
 abbrev pub headed : Presence → DumpSoFar → DumpSoFar
 headed p (Legal m ports) = Legal (with_presence p m) ports
-headed p Illegal = Illegal
+headed p (Illegal found) = Illegal found
 headed p Broken = Broken
 
 -- a dump by the lines of its header and the text of its body, which is judged as its samples; its header may not have the
@@ -65,4 +65,4 @@ dump_of o map boards text =
 abbrev pub IsDumpStatusOf : Options → Map → List Board → List ℕ → Status → Type 0
 IsDumpStatusOf o map boards text status =
     (status ≡ dump_status (dump_of o map boards text))
-    ⊎ ((o.limit ≢ 1) × (dump_of o map boards text ≡ Illegal) × (status ≡ Rejected))
+    ⊎ ((o.limit ≢ 1) × (is_illegal (dump_of o map boards text) ≡ true) × (status ≡ Rejected))

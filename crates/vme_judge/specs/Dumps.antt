@@ -1,6 +1,5 @@
 -- Which dumps are legal: each sample is judged after those before it, and with it what the boards' local ports have done.
-use Rattle.std.specs.Prelude.{ℕ, ◌+◌, ◌/◌, ◌^◌, ◌%◌, bit_and, Bool, true, not, ◌==◌, ◌&&◌, ◌||◌, if◌then◌else◌, List, [], ◌∷◌, Option, Some, None, is_some, is_none, Result, Ok, Err}
-use Rattle.std.specs.Option.{option_and_then}
+use Rattle.std.specs.Prelude.{ℕ, ◌+◌, ◌/◌, ◌^◌, ◌%◌, bit_and, Bool, true, false, not, ◌==◌, ◌&&◌, ◌||◌, if◌then◌else◌, List, [], ◌∷◌, Option, Some, None, is_some, is_none, Result, Ok, Err}
 use Rattle.vme_protocol.specs.declared.port.Local.{Local}
 use Rattle.vme_protocol.specs.declared.port.Port.{Port}
 use Rattle.vme_protocol.specs.declared.rule.Rule.{Rule}
@@ -13,9 +12,14 @@ use Rattle.vme_vcd_reader.specs.Buses.{port_of, sample_of, with_slot}
 use Rattle.vme_judge.specs.declared.boards.Board.{Board}
 use Rattle.vme_judge.specs.declared.fault.Status.{Status}
 use Rattle.vme_judge.specs.declared.fault.Status.TheVariants as statuses
+use Rattle.vme_judge.specs.declared.finding.Broken.TheVariants as brokens
+use Rattle.vme_judge.specs.declared.finding.Finding.{Finding}
+use Rattle.vme_judge.specs.declared.judge.Spot.{Spot}
 use Rattle.vme_judge.specs.declared.options.Options.{Options}
+use Rattle.vme_judge.specs.declared.transfer.OpenTransfer.{OpenTransfer}
 use Rattle.vme_judge.specs.Logs.{access_taken}
-use Rattle.vme_judge.specs.Standing.{Standing, sample_taken}
+use Rattle.vme_judge.specs.Seen.{has_counted, one_more}
+use Rattle.vme_judge.specs.Standing.{Course, Falls, Found, Standing, Stands, course_then, found_at, sample_taken}
 
 -- slots, and those of boards
 abbrev pub with_boards : ℕ → List Board → ℕ
@@ -48,28 +52,44 @@ with_presence p m = record m { scope = dump_scope p (slots_of m.boards) m.scope 
 abbrev pub is_among : ℕ → ℕ → Bool
 is_among slots place = not (bit_and (slots / 2 ^ (place % 32)) 1 == 0)
 
--- what is remembered after what the local port of a slot has done: nothing, an access, or what breaks a rule
-abbrev pub done_taken : ℕ → Result (Option Local) Rule → Standing → Option Standing
-done_taken slot (Err rule) m = None
-done_taken slot (Ok None) m = Some m
-done_taken slot (Ok (Some access)) m = access_taken slot access m
+-- the finding at a local port that breaks a rule
+abbrev pub port_finding : Spot → ℕ → Option OpenTransfer → Rule → Finding
+port_finding spot slot transfer rule = record {
+  line = spot.line;
+  time = spot.time;
+  broken = brokens.Port rule slot;
+  samples = None;
+  transfer = transfer;
+  undefined = None;
+}
+
+-- a trace that stands, after a rule that the local port of a slot breaks
+unfoldable pub breach_taken : Spot → ℕ → Rule → Standing → Course
+breach_taken spot slot rule m = found_at m.once (port_finding spot slot m.transfer rule) m.counts m.transfer
+
+-- a trace that stands, after what the local port of a slot has done: nothing, an access, or what breaks a rule
+abbrev pub done_taken : Spot → ℕ → Result (Option Local) Rule → Standing → Course
+done_taken spot slot (Err rule) m = breach_taken spot slot rule m
+done_taken spot slot (Ok None) m = Stands m
+done_taken spot slot (Ok (Some access)) m = access_taken spot slot access m
 
 -- the same by what the port showed before, if it has shown anything; before the first sample at rest nothing is judged
-abbrev pub port_taken : ℕ → Option Port → Port → Standing → Option Standing
-port_taken slot None now m = Some m
-port_taken slot (Some last) now m = if is_some m.watch then done_taken slot (local_between last now) m else Some m
+abbrev pub port_taken : Spot → ℕ → Option Port → Port → Standing → Course
+port_taken spot slot None now m = Stands m
+port_taken spot slot (Some last) now m =
+    if is_some m.watch then done_taken spot slot (local_between last now) m else Stands m
 
 -- what the local port at a place shows
 abbrev pub port_at : BusLines → ℕ → Port
 port_at lines place = (port_of lines (place + 1)).port
 
--- what is remembered after what the local ports from a place on have done, of which those of some slots have changed; each by
--- what it showed before
-abbrev pub ports_taken : BusLines → ℕ → ℕ → List (Option Port) → Standing → Option Standing
-ports_taken lines changed place [] m = Some m
-ports_taken lines changed place (last ∷ ports) m =
-    option_and_then (ports_taken lines changed (place + 1) ports)
-    (if is_among changed place then port_taken (place + 1) last (port_at lines place) m else Some m)
+-- a trace that stands, after what the local ports from a place on have done, of which those of some slots have changed; each
+-- by what it showed before
+abbrev pub ports_taken : Spot → BusLines → ℕ → ℕ → List (Option Port) → Standing → Course
+ports_taken spot lines changed place [] m = Stands m
+ports_taken spot lines changed place (last ∷ ports) m =
+    course_then (ports_taken spot lines changed (place + 1) ports)
+    (if is_among changed place then port_taken spot (place + 1) last (port_at lines place) m else Stands m)
 
 -- what the local ports from a place on have shown then
 abbrev pub ports_after : BusLines → ℕ → ℕ → List (Option Port) → List (Option Port)
@@ -78,40 +98,57 @@ ports_after lines changed place (last ∷ ports) =
     (if is_among changed place then Some (port_at lines place) else last) ∷ ports_after lines changed (place + 1) ports
 
 -- a dump so far: legal, with what is remembered of it and what each local port has shown; illegal, once a sample or a port
--- is; or broken, once its text is no body of a dump
+-- is, with what is found, if one finding is asked for; or broken, once its text is no body of a dump
 pub data DumpSoFar : Type 0 where
   Legal : Standing → List (Option Port) → DumpSoFar
-  Illegal : DumpSoFar
+  Illegal : Option Found → DumpSoFar
   Broken : DumpSoFar
 
--- a dump by what is remembered of it, if it is legal
-abbrev pub dump_by : Option Standing → List (Option Port) → DumpSoFar
-dump_by None ports = Illegal
-dump_by (Some m) ports = Legal m ports
+-- whether a dump is illegal
+abbrev pub is_illegal : DumpSoFar → Bool
+is_illegal (Legal m ports) = false
+is_illegal (Illegal found) = true
+is_illegal Broken = false
+
+-- a dump by its course, and what each local port has shown
+abbrev pub dump_by : Course → List (Option Port) → DumpSoFar
+dump_by (Falls found) ports = Illegal found
+dump_by (Stands m) ports = Legal m ports
+
+-- the place of a sample: its time. In which line it is said, and which line of the bus is undefined, is not stated
+abbrev pub time_spot : ℕ → Spot
+time_spot time = record { line = 0; time = Some time }
+
+-- what is remembered after a sample that is passed over
+abbrev pub passed : Standing → Standing
+passed m = record m { counts = record m.counts { samples = one_more m.counts.samples } }
 
 -- whether a sample is passed over: no variable has changed, no time is limited, and the samples are judged already
 abbrev pub is_passed : Options → Shown → Standing → Bool
 is_passed o s m = not s.changed && is_none o.timeout && is_some m.watch
 
--- what is remembered after a sample and what the local ports have done at it
-abbrev pub shown_taken : Shown → List (Option Port) → Standing → Option Standing
-shown_taken s ports m = option_and_then (ports_taken s.lines s.ports 0 ports) (sample_taken (sample_of s.lines s.time) m)
+-- a trace that stands, after a sample and what the local ports have done at it
+abbrev pub shown_taken : Shown → List (Option Port) → Standing → Course
+shown_taken s ports m =
+    course_then (ports_taken (time_spot s.time) s.lines s.ports 0 ports)
+    (sample_taken (time_spot s.time) None (sample_of s.lines s.time) m)
 
 -- a legal dump after a sample
 abbrev pub legal_next : Options → Shown → Standing → List (Option Port) → DumpSoFar
 legal_next o s m ports =
-    if is_passed o s m then Legal m ports else dump_by (shown_taken s ports m) (ports_after s.lines s.ports 0 ports)
+    if is_passed o s m then Legal (passed m) ports
+    else dump_by (shown_taken s ports m) (ports_after s.lines s.ports 0 ports)
 
 -- a dump after a sample; after one that is not legal nothing is judged
 abbrev pub next_shown : Options → Shown → DumpSoFar → DumpSoFar
 next_shown o s (Legal m ports) = legal_next o s m ports
-next_shown o s Illegal = Illegal
+next_shown o s (Illegal found) = Illegal found
 next_shown o s Broken = Broken
 
 -- a dump whose text ends here, since it is no body of a dump
 abbrev pub broken_off : DumpSoFar → DumpSoFar
 broken_off (Legal m ports) = Broken
-broken_off Illegal = Illegal
+broken_off (Illegal found) = Illegal found
 broken_off Broken = Broken
 
 -- a dump after samples
@@ -122,6 +159,6 @@ dump_taken o d (Sample s samples) = dump_taken o (next_shown o s d) samples
 
 -- the verdict on a dump: it is rejected too if there is neither a datum nor a local access that is judged
 abbrev pub dump_status : DumpSoFar → Status
-dump_status (Legal m ports) = if m.is_judged then statuses.Legal else statuses.Rejected
-dump_status Illegal = statuses.Illegal
+dump_status (Legal m ports) = if has_counted m.counts then statuses.Legal else statuses.Rejected
+dump_status (Illegal found) = statuses.Illegal
 dump_status Broken = statuses.Rejected

@@ -1,5 +1,5 @@
 pub mod Faults
-pub mod Legal
+pub mod Seen
 pub mod Standing
 pub mod Samples
 pub mod Openings

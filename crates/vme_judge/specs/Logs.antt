@@ -1,37 +1,52 @@
 -- Which logs are legal: each line is judged by the samples that it shows.
-use Rattle.std.specs.Prelude.{ℕ, ◌+◌, Bool, true, false, ◌==◌, ◌&&◌, if◌then◌else◌, List, [], ◌∷◌, ◌++◌, Option, Some, None, Result, Ok, Err}
+use Rattle.std.specs.Prelude.{ℕ, ◌+◌, Bool, true, false, ◌==◌, ◌&&◌, if◌then◌else◌, List, [], ◌∷◌, Option, Some, None, Result, Ok, Err}
 use Rattle.std.specs.List.{position}
 use Rattle.std.specs.Option.{option_map}
 use Rattle.vme_protocol.specs.declared.port.Local.{Local}
 use Rattle.vme_protocol.specs.declared.rule.Rule.{Rule}
+use Rattle.vme_answers.specs.declared.wrong.Wrong.{Wrong}
 use Rattle.vme_answers.specs.Taking.{Judged, local_taken}
+use Rattle.vme_answers.specs.Wrongs.{local_wrong_of}
 use Rattle.vme_bus_log.specs.declared.entry.LogAccess.{LogAccess}
 use Rattle.vme_bus_log.specs.declared.entry.LogDatum.{LogDatum}
 use Rattle.vme_bus_log.specs.declared.entry.LogEntry.{LogEntry}
 use Rattle.vme_bus_log.specs.declared.entry.LogEntry.TheVariants as entries
 use Rattle.vme_judge.specs.declared.fault.Status.{Status}
 use Rattle.vme_judge.specs.declared.fault.Status.TheVariants as statuses
+use Rattle.vme_judge.specs.declared.finding.Asked.TheVariants as askeds
+use Rattle.vme_judge.specs.declared.finding.Broken.TheVariants as brokens
+use Rattle.vme_judge.specs.declared.finding.Finding.{Finding}
+use Rattle.vme_judge.specs.declared.judge.Spot.{Spot}
 use Rattle.vme_judge.specs.declared.log.Taken.{Taken}
 use Rattle.vme_judge.specs.declared.log.Taken.TheVariants as takes
-use Rattle.vme_judge.specs.Standing.{Standing, samples_taken}
-use Rattle.vme_judge.specs.Samples.{opening_samples, datum_samples}
+use Rattle.vme_judge.specs.declared.transfer.OpenTransfer.{OpenTransfer}
+use Rattle.vme_judge.specs.Samples.{address_samples, datum_samples, fall_samples}
+use Rattle.vme_judge.specs.Seen.{has_counted, one_more, without_start}
+use Rattle.vme_judge.specs.Standing.{Course, Falls, Found, Standing, Stands, course_map, course_then, found_at, samples_taken}
 
 -- a log so far: legal, with what is remembered of it and the datum before, if its transfer may go on; illegal, once a line
--- shows a sample that is not legal; or broken, once a line is none of a log or does not go on from the line before
+-- shows a sample that is not legal, with what is found, if one finding is asked for; or broken, once a line is none of a log or
+-- does not go on from the line before
 pub data LogSoFar : Type 0 where
   Legal : Standing → Option LogDatum → LogSoFar
-  Illegal : LogSoFar
+  Illegal : Option Found → LogSoFar
   Broken : LogSoFar
+
+-- whether a log is illegal
+abbrev pub is_illegal : LogSoFar → Bool
+is_illegal (Legal m last) = false
+is_illegal (Illegal found) = true
+is_illegal Broken = false
 
 -- whether a datum is the next one of a transfer
 abbrev pub is_next : LogDatum → LogDatum → Bool
 is_next last d = d.index == last.index + 1 && d.am == last.am && d.address == last.address
 
--- a log by whether it is broken, what is remembered of it and the datum before
-abbrev pub so_far : Bool → Option Standing → Option LogDatum → LogSoFar
-so_far true m last = Broken
-so_far false None last = Illegal
-so_far false (Some m) last = Legal m last
+-- a log by whether it is broken, its course and the datum before
+abbrev pub so_far : Bool → Course → Option LogDatum → LogSoFar
+so_far true c last = Broken
+so_far false (Falls found) last = Illegal found
+so_far false (Stands m) last = Legal m last
 
 -- whether a line does not go on from the line before
 abbrev pub is_broken : Taken → Bool
@@ -40,66 +55,106 @@ is_broken takes.Legal = false
 is_broken takes.Illegal = false
 
 -- a datum after its samples
-abbrev pub shown_by : Option LogDatum → Option Standing → LogSoFar
-shown_by d None = Illegal
-shown_by d (Some m) = Legal m d
+abbrev pub shown_by : Option LogDatum → Course → LogSoFar
+shown_by d (Falls found) = Illegal found
+shown_by d (Stands m) = Legal m d
+
+-- the place of a datum: its line and its time
+abbrev pub datum_spot : ℕ → LogDatum → Spot
+datum_spot line d = record { line = line; time = d.time }
+
+-- what is remembered of a trace that does not show at which time AS* fell
+abbrev pub unstarted : Standing → Standing
+unstarted m = record m { transfer = option_map without_start m.transfer }
+
+-- AS* falls
+abbrev pub begun_by : Spot → LogDatum → Standing → Course
+begun_by spot d m = course_map unstarted (samples_taken spot (fall_samples d) m)
+
+-- a transfer begins, with its address phase
+abbrev pub addressed_by : Spot → LogDatum → Standing → Course
+addressed_by spot d m = course_then (samples_taken spot (address_samples d)) (begun_by spot d m)
+
+-- a transfer begins, with its first datum
+abbrev pub first_taken : Spot → LogDatum → Standing → Course
+first_taken spot d m = course_then (samples_taken spot (datum_samples d)) (addressed_by spot d m)
+
+-- what is remembered after a datum that is left out
+abbrev pub left_out : Standing → Standing
+left_out m = record m { counts = record m.counts { skipped = one_more m.counts.skipped } }
 
 -- a datum that begins no transfer: the next one of the transfer before, if the log has one; else it is left out, since the
 -- log may begin within a transfer
-abbrev pub datum_continued : Standing → Option LogDatum → LogDatum → LogSoFar
-datum_continued m None d = Legal m None
-datum_continued m (Some last) d =
-    if is_next last d then shown_by (Some d) (samples_taken (datum_samples d) m) else Broken
+abbrev pub datum_continued : ℕ → Standing → Option LogDatum → LogDatum → LogSoFar
+datum_continued line m None d = Legal (left_out m) None
+datum_continued line m (Some last) d =
+    if is_next last d then shown_by (Some d) (samples_taken (datum_spot line d) (datum_samples d) m) else Broken
 
--- a datum after the line before
-abbrev pub datum_taken : Standing → Option LogDatum → LogDatum → LogSoFar
-datum_taken m last d =
-    if d.index == 0 then shown_by (Some d) (samples_taken (opening_samples d ++ datum_samples d) m)
-    else datum_continued m last d
+-- a datum of a line after the line before
+abbrev pub datum_taken : ℕ → Standing → Option LogDatum → LogDatum → LogSoFar
+datum_taken line m last d =
+    if d.index == 0 then shown_by (Some d) (first_taken (datum_spot line d) d m) else datum_continued line m last d
 
 -- the access of a line
 abbrev pub local_of : LogAccess → Local
 local_of a = record { write = a.is_write; offset = a.offset; len = a.len; «data» = a.bytes }
 
--- what is known after a local access, if its answer is legal
-abbrev pub known_by : Result Judged Rule → Option (Option Judged)
-known_by (Ok k) = Some (Some k)
-known_by (Err rule) = None
+-- the finding at a local access whose answer is not that of its board
+abbrev pub access_finding : Spot → ℕ → Local → Option OpenTransfer → Wrong → Finding
+access_finding spot slot a transfer wrong = record {
+  line = spot.line;
+  time = spot.time;
+  broken = brokens.Answer wrong (askeds.Access a) (Some slot);
+  samples = None;
+  transfer = transfer;
+  undefined = None;
+}
 
--- what is known after an access to the board with an index; with no such board, or if no answers are judged, each is legal
-abbrev pub known_at : Local → Option ℕ → Option Judged → Option (Option Judged)
-known_at a None k = Some k
-known_at a (Some board) None = Some None
-known_at a (Some board) (Some k) = known_by (local_taken k board a)
+-- what is remembered with one local access more
+abbrev pub accessed : Standing → Standing
+accessed m = record m { counts = record m.counts { accesses = one_more m.counts.accesses } }
 
--- what is remembered after a legal local access
-abbrev pub with_known : Standing → Option Judged → Standing
-with_known m k = record m { answers = k; is_judged = true }
+-- a trace after a local access of a board, by the board's answer to it
+abbrev pub access_known : Spot → ℕ → Local → ℕ → Judged → Standing → Result Judged Rule → Course
+access_known spot slot a board k m (Ok next) = Stands (record m { answers = Some next })
+access_known spot slot a board k m (Err rule) =
+    found_at m.once (access_finding spot slot a m.transfer (local_wrong_of k board a rule)) m.counts m.transfer
 
--- what is remembered after a local access of the board in a slot, if its answer is legal
-unfoldable pub access_taken : ℕ → Local → Standing → Option Standing
-access_taken slot a m = option_map (with_known m) (known_at a (position (λ board. board.slot == slot) m.boards) m.answers)
+-- a trace after an access to the board with an index; with no such board, or if no answers are judged, each is legal
+abbrev pub access_judged : Spot → ℕ → Local → Standing → Option ℕ → Option Judged → Course
+access_judged spot slot a m None k = Stands m
+access_judged spot slot a m (Some board) None = Stands m
+access_judged spot slot a m (Some board) (Some k) = access_known spot slot a board k m (local_taken k board a)
+
+-- a trace that stands, after a local access of the board in a slot
+unfoldable pub access_taken : Spot → ℕ → Local → Standing → Course
+access_taken spot slot a m =
+    access_judged spot slot a (accessed m) (position (λ board. board.slot == slot) m.boards) m.answers
+
+-- the place of a local access: its line and its time
+abbrev pub access_spot : ℕ → LogAccess → Spot
+access_spot line a = record { line = line; time = a.time }
 
 -- a line of a log after the lines before; a line that says nothing is none of a log
-abbrev pub line_taken : Standing → Option LogDatum → Option LogEntry → LogSoFar
-line_taken m last None = Broken
-line_taken m last (Some entries.Nothing) = Legal m last
-line_taken m last (Some (entries.Datum d)) = datum_taken m last d
-line_taken m last (Some (entries.Access a)) = shown_by last (access_taken a.slot (local_of a) m)
+abbrev pub line_taken : ℕ → Standing → Option LogDatum → Option LogEntry → LogSoFar
+line_taken line m last None = Broken
+line_taken line m last (Some entries.Nothing) = Legal m last
+line_taken line m last (Some (entries.Datum d)) = datum_taken line m last d
+line_taken line m last (Some (entries.Access a)) = shown_by last (access_taken (access_spot line a) a.slot (local_of a) m)
 
--- the next line of a log; after a line that is not legal nothing is judged
-abbrev pub next_taken : LogSoFar → Option LogEntry → LogSoFar
-next_taken (Legal m last) line = line_taken m last line
-next_taken Illegal line = Illegal
-next_taken Broken line = Broken
+-- a log after the line with a number; after a line that is not legal nothing is judged
+abbrev pub next_taken : LogSoFar → ℕ → Option LogEntry → LogSoFar
+next_taken (Legal m last) line said = line_taken line m last said
+next_taken (Illegal found) line said = Illegal found
+next_taken Broken line said = Broken
 
--- the next lines of a log
-abbrev pub log_taken : LogSoFar → List (Option LogEntry) → LogSoFar
-log_taken log [] = log
-log_taken log (line ∷ lines) = log_taken (next_taken log line) lines
+-- a log after lines of which the first has a number
+abbrev pub log_taken : LogSoFar → ℕ → List (Option LogEntry) → LogSoFar
+log_taken log line [] = log
+log_taken log line (said ∷ lines) = log_taken (next_taken log line said) (one_more line) lines
 
 -- the verdict on a log: it is rejected too if there is neither a datum nor a local access that is judged
 abbrev pub status_of : LogSoFar → Status
-status_of (Legal m last) = if m.is_judged then statuses.Legal else statuses.Rejected
-status_of Illegal = statuses.Illegal
+status_of (Legal m last) = if has_counted m.counts then statuses.Legal else statuses.Rejected
+status_of (Illegal found) = statuses.Illegal
 status_of Broken = statuses.Rejected

@@ -10,6 +10,7 @@ use Rattle.vme_answers.specs.Taking.{Judged}
 use Rattle.vme_judge.specs.declared.boards.Board.{Board}
 use Rattle.vme_judge.specs.declared.options.OpenBytes.{OpenBytes}
 use Rattle.vme_judge.specs.declared.options.Options.{Options}
+use Rattle.vme_judge.specs.Seen.{no_counts}
 use Rattle.vme_judge.specs.Standing.{Standing}
 
 -- which rules are judged before a trace shows its lines: none of BBSY* and of grants, which a log does not have
@@ -57,9 +58,11 @@ opening_answers o boards =
 -- what is remembered before the first sample
 unfoldable pub opening : Options → List Board → Standing
 opening o boards = record {
+  once = o.limit == 1;
   scope = opening_scope o;
   boards = boards;
   watch = None;
   answers = opening_answers o boards;
-  is_judged = false;
+  counts = no_counts;
+  transfer = None;
 }

@@ -1,11 +1,11 @@
 -- A log that is judged while it is read.
-use Rattle.std.specs.Prelude.{◌≡◌, ℕ, Bool, true, false, ◌==◌, if◌then◌else◌, ◌⊎◌, List, [], ◌∷◌, ◌++◌, Option, None, is_some, IsSome}
+use Rattle.std.specs.Prelude.{◌≡◌, ℕ, Bool, true, false, ◌==◌, if◌then◌else◌, ◌⊎◌, List, [], ◌∷◌, ◌++◌, Option, None, is_some}
 use Rattle.vme_bus_log.specs.declared.entry.LogEntry.{LogEntry}
 use Rattle.vme_bus_log.specs.Texts.{log_says}
 use Rattle.vme_judge.specs.declared.run.Kind.{Kind}
 use Rattle.vme_judge.specs.declared.run.Kind.TheVariants as kinds
 use Rattle.vme_judge.specs.declared.run.Run.{Run}
-use Rattle.vme_judge.specs.Standing.{Standing, standing, IsOnce}
+use Rattle.vme_judge.specs.Standing.{Course, Falls, Found, HasFallen, IsStanding, standing, IsOnce}
 use Rattle.vme_judge.specs.Logs.{LogSoFar, Illegal, so_far, log_taken, next_taken}
 use Rattle.vme_judge.specs.Verdicts.{is_space}
 
@@ -29,15 +29,19 @@ run_so_far r = so_far (is_some r.rejection) (standing r.judge) r.state.last
 
 -- the whole log, if this text of it is left to read
 abbrev pub log_whole : Run → List ℕ → LogSoFar
-log_whole r rest = log_taken (run_so_far r) (log_says (r.log.line ++ rest))
+log_whole r rest = log_taken (run_so_far r) r.log.number (log_says (r.log.line ++ rest))
 
--- a log is judged as it is, or it is illegal, and something was found: a run may go on after a finding
-abbrev pub IsJudgedAs : LogSoFar → LogSoFar → Option Standing → Type 0
-IsJudgedAs log judged m = (judged ≡ log) ⊎ ((log ≡ Illegal) × (m ≡ None))
+-- a log is illegal, and this is found
+abbrev pub IsIllegal : LogSoFar → Course → Type 0
+IsIllegal log c = (found : Option Found) × (log ≡ Illegal found) × (c ≡ Falls found)
+
+-- a log is judged as it is, or it is illegal, and that is found: a run may go on after a finding
+abbrev pub IsJudgedAs : LogSoFar → LogSoFar → Course → Type 0
+IsJudgedAs log judged c = (judged ≡ log) ⊎ IsIllegal log c
 
 -- a log of which no further line is judged
 abbrev pub IsOver : LogSoFar → Type 0
-IsOver log = (lines : List (Option LogEntry)) → log_taken log lines ≡ log
+IsOver log = (line : ℕ) (lines : List (Option LogEntry)) → log_taken log line lines ≡ log
 
 -- a run has judged these bytes of a log
 abbrev pub Judges : Run → Run → List ℕ → Type 0
@@ -49,21 +53,21 @@ abbrev pub JudgesLine : Run → Run → List ℕ → Type 0
 JudgesLine old new line =
     (rest : List ℕ) → IsJudgedAs (log_whole old (line ++ 10 ∷ rest)) (log_whole new rest) (standing new.judge)
 
--- a run has judged a line of a log
-abbrev pub TakesLine : Run → Run → Option LogEntry → Type 0
-TakesLine old new line = IsJudgedAs (next_taken (run_so_far old) line) (run_so_far new) (standing new.judge)
+-- a run has judged the line of a log with a number
+abbrev pub TakesLine : Run → Run → ℕ → Option LogEntry → Type 0
+TakesLine old new line said = IsJudgedAs (next_taken (run_so_far old) line said) (run_so_far new) (standing new.judge)
 
 -- what was found stays found
 abbrev pub StaysFound : Run → Run → Type 0
-StaysFound old new = standing old.judge ≡ None → standing new.judge ≡ None
+StaysFound old new = (found : Option Found) → standing old.judge ≡ Falls found → standing new.judge ≡ Falls found
 
 -- a run that has found and rejected nothing
 abbrev pub IsGoing : Run → Type 0
-IsGoing r = IsSome (standing r.judge) × (r.rejection ≡ None)
+IsGoing r = IsStanding (standing r.judge) × (r.rejection ≡ None)
 
 -- one finding is asked for, and a run that has found it has rejected nothing
 abbrev pub IsOnceRun : Run → Type 0
-IsOnceRun r = IsOnce r.judge × (standing r.judge ≡ None → r.rejection ≡ None)
+IsOnceRun r = IsOnce r.judge × (HasFallen (standing r.judge) → r.rejection ≡ None)
 
 -- a run for one finding stays one, and if it goes on, it has found and rejected nothing
 abbrev pub RunsOnce : Run → Run → Bool → Type 0

@@ -61,10 +61,13 @@ unfoldable pub handshake_samples : LogDatum → Sample → Bool → List Sample
 handshake_samples d s acknowledged =
     s ∷ strobed d s ∷ answered acknowledged (strobed d s) ∷ released (answered acknowledged (strobed d s)) ∷ s ∷ []
 
--- a transfer begins: AS* is high, then low; eight-byte data come after an address phase, which DTACK* answers
-abbrev pub opening_samples : LogDatum → List Sample
-opening_samples d =
-    quiet d true ∷ quiet d false ∷ (if d.is_wide then handshake_samples d (quiet d false) true else [])
+-- a transfer begins: AS* is high, then low
+abbrev pub fall_samples : LogDatum → List Sample
+fall_samples d = quiet d true ∷ quiet d false ∷ []
+
+-- eight-byte data come after an address phase, which DTACK* answers
+abbrev pub address_samples : LogDatum → List Sample
+address_samples d = if d.is_wide then handshake_samples d (quiet d false) true else []
 
 -- the handshake of a datum
 abbrev pub datum_samples : LogDatum → List Sample

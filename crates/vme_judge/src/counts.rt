@@ -1,5 +1,6 @@
 //! What was seen of a trace.
-ghost use Rattle.std.specs.Prelude.{◌≡◌, ◌+◌, ◌-◌, ◌^◌, min};
+ghost use Rattle.std.specs.Prelude.{◌≡◌};
+ghost use Rattle.vme_judge.specs.Seen.{one_more};
 
 /// What was seen of a trace. Counts stop at their greatest number.
 #[derive(Clone, Copy, Debug, PartialEq, Eq)]
@@ -27,7 +28,7 @@ impl Counts {
 
 /// Adds one to a count.
 pub(crate) fn count(number: &mut u64)
-    ensures { number.new ≡ min (number.old + 1) (2 ^ 64 - 1) }
+    ensures { number.new ≡ one_more number.old }
 {
     *number = number.saturating_add(1);
 }

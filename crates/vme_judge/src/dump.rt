@@ -1,11 +1,10 @@
 //! A dump, judged.
 ghost use Rattle.std.specs.Prelude.{◌≡◌, true, None, replicate, IfOk};
-ghost use Rattle.std.specs.Option.{option_map};
 ghost use Rattle.vme_protocol.specs.Ports.{local_between};
 ghost use Rattle.vme_judge.specs.DumpRuns.{shown_by, Takes, TakesShown};
-ghost use Rattle.vme_judge.specs.Dumps.{done_taken, dump_scope, is_among, is_passed, port_taken, ports_after, ports_taken, slots_of, with_presence};
+ghost use Rattle.vme_judge.specs.Dumps.{breach_taken, done_taken, dump_scope, is_among, is_passed, port_taken, ports_after, ports_taken, slots_of, with_presence};
 ghost use Rattle.vme_judge.specs.Logs.{access_taken};
-ghost use Rattle.vme_judge.specs.Standing.{sample_taken, standing, state_of};
+ghost use Rattle.vme_judge.specs.Standing.{course_map, sample_taken, standing, state_of};
 
 use crate::boards::Board;
 use crate::judge::{Judge, Spot};
@@ -35,7 +34,7 @@ pub(crate) fn slots_of(boards: &[Board]) -> u32
 
 /// Sets which rules are judged by what a dump has.
 pub(crate) fn set_scope(judge: &mut Judge<'_>, presence: &Presence)
-    ensures standing { standing judge.new ≡ option_map (with_presence presence.now) (standing judge.old) }
+    ensures standing { standing judge.new ≡ course_map (with_presence presence.now) (standing judge.old) }
     ensures options { judge.new.options ≡ judge.old.options }
     ensures found { judge.new.found ≡ judge.old.found }
 {
@@ -87,7 +86,7 @@ impl Ports {
         changed: u32,
         spot: Spot,
     ) -> Result<bool, AllocError>
-        ensures judged { IfOk result (Takes judge.old judge.new (ports_taken bus.now changed 0 self.old.last)) }
+        ensures judged { IfOk result (Takes judge.old judge.new (ports_taken (record spot { line = 0 }) bus.now changed 0 self.old.last)) }
         ensures shown { IfOk result (λ goes_on. goes_on ≡ true → self.new.last ≡ ports_after bus.now changed 0 self.old.last) }
     {
         if changed == 0 {
@@ -119,7 +118,7 @@ fn take_port(
     now: &Port,
     spot: Spot,
 ) -> Result<bool, AllocError>
-    ensures { IfOk result (Takes judge.old judge.new (port_taken slot last now.now)) }
+    ensures { IfOk result (Takes judge.old judge.new (port_taken (record spot { line = 0 }) slot last now.now)) }
 {
     let Some(last) = last else {
         return Ok(true);
@@ -138,7 +137,7 @@ fn take_done(
     now: &Port,
     spot: Spot,
 ) -> Result<bool, AllocError>
-    ensures { IfOk result (Takes judge.old judge.new (done_taken slot (local_between last.now now.now))) }
+    ensures { IfOk result (Takes judge.old judge.new (done_taken (record spot { line = 0 }) slot (local_between last.now now.now))) }
 {
     match local_access(last, now) {
         Ok(None) => Ok(true),
@@ -154,7 +153,7 @@ fn take_access(
     access: &Local,
     spot: Spot,
 ) -> Result<bool, AllocError>
-    ensures { IfOk result (Takes judge.old judge.new (access_taken slot access.now)) }
+    ensures { IfOk result (Takes judge.old judge.new (access_taken (record spot { line = 0 }) slot access.now)) }
 {
     if judge.access(slot, access, spot)? {
         return Ok(true);
@@ -164,7 +163,7 @@ fn take_access(
 
 /// Takes a rule that a local port breaks.
 fn take_breach(judge: &mut Judge<'_>, slot: u8, rule: Rule, spot: Spot) -> Result<bool, AllocError>
-    ensures { IfOk result (Takes judge.old judge.new (λ m. None)) }
+    ensures { IfOk result (Takes judge.old judge.new (breach_taken (record spot { line = 0 }) slot rule)) }
 {
     judge.port_breaks(rule, slot, spot);
     judge.goes_on()
@@ -177,7 +176,7 @@ fn take_lines(
     spot: Spot,
     undefined: Option<&'static str>,
 ) -> Result<bool, AllocError>
-    ensures { IfOk result (Takes judge.old judge.new (sample_taken sample.now)) }
+    ensures { IfOk result (Takes judge.old judge.new (sample_taken (record spot { line = 0 }) None sample.now)) }
 {
     if judge.take(sample, spot, undefined)? {
         return Ok(true);

@@ -1,11 +1,10 @@
 //! The judgement of a trace, sample by sample.
-ghost use Rattle.std.specs.Prelude.{◌≡◌, ◌==◌, ◌||◌, not, false, Some, None, IfOk, IfSome, IfNone, IsSome, IsTrue, IsFalse, is_some};
+ghost use Rattle.std.specs.Prelude.{◌≡◌, ◌||◌, ◌==◌, not, Some, None, IfOk, IsNone, is_some, is_none};
 ghost use Rattle.std.specs.List.{position};
-ghost use Rattle.std.specs.Option.{option_and_then};
-ghost use Rattle.vme_protocol.specs.Watching.{shown, next_watch};
-ghost use Rattle.vme_judge.specs.Legal.{accepts, is_legal, answers_after};
-ghost use Rattle.vme_judge.specs.Logs.{access_taken, known_at};
-ghost use Rattle.vme_judge.specs.Standing.{begun, judged_after, has_counted, sample_taken, standing, KeepsTask, KeepsCourse};
+ghost use Rattle.vme_judge.specs.Dumps.{breach_taken, passed};
+ghost use Rattle.vme_judge.specs.Logs.{access_judged, access_taken, left_out, unstarted};
+ghost use Rattle.vme_judge.specs.Seen.{closed_at, counts_opened, opened_at, with_data, with_datum};
+ghost use Rattle.vme_judge.specs.Standing.{answer_finding, closed, course_map, course_then, datum_judged, found_by, order_finding, sample_judged, sample_taken, shown_judged, slot_of, standing, stands, state_of, HasFallen, IsStanding, KeepsTask};
 
 use crate::boards::Board;
 use crate::counts::{Counts, count};
@@ -16,7 +15,7 @@ use crate::transfer::{OpenTransfer, driver_of};
 use std::alloc::{AllocError, Global};
 use vme_answers::{Answers, Wrong};
 use vme_bus_log::{LogAccess, print_access, print_datum};
-use vme_protocol::{Datum, Local, Rule, Sample, Scope, Watch};
+use vme_protocol::{Datum, Local, Rule, Sample, Scope, Transfer, Watch};
 
 /// The place of a sample in the trace.
 #[derive(Clone, Copy, Debug)]
@@ -60,7 +59,8 @@ impl Judge<'_> {
         self.watch.is_some()
     }
 
-    /// Takes the next sample, and returns whether the trace is legal so far.
+    /// Takes the next sample, and returns whether the trace is legal so far. After a finding nothing
+    /// is taken.
     ///
     /// # Errors
     ///
@@ -72,10 +72,13 @@ impl Judge<'_> {
         undefined: Option<&'static str>,
     ) -> Result<bool, AllocError>
         ensures standing { IfOk result (λ _.
-            standing self.new ≡ option_and_then (sample_taken sample.now) (standing self.old)) }
-        ensures legal { IfOk result (λ legal. IsSome (standing self.old) → legal ≡ is_some (standing self.new)) }
+            standing self.new ≡ course_then (sample_taken spot undefined.entry sample.now) (standing self.old)) }
+        ensures legal { IfOk result (λ legal. IsStanding (standing self.old) → legal ≡ stands (standing self.new)) }
         ensures task { IfOk result (λ _. KeepsTask self.old self.new) }
     {
+        if self.finding.is_some() {
+            return Ok(false);
+        }
         self.step(sample, spot, undefined)
     }
 
@@ -87,21 +90,10 @@ impl Judge<'_> {
         undefined: Option<&'static str>,
     ) -> Result<bool, AllocError>
         ensures task { IfOk result (λ _. KeepsTask self.old self.new) }
-        ensures finding { IfOk result (λ legal. IsTrue legal → self.new.finding ≡ self.old.finding) }
-        ensures found { IfOk result (λ legal. IsFalse legal → IsSome self.new.finding) }
-        ensures begins { IfOk result (λ _. self.old.found ≡ 0 →
-            IfNone self.old.watch (self.new.watch ≡ begun self.old.scope sample.now)) }
-        ensures knows { IfOk result (λ _. self.old.found ≡ 0 →
-            IfNone self.old.watch (self.new.answers ≡ self.old.answers)) }
-        ensures waits { IfOk result (λ _. IfNone self.old.watch
-            (has_counted self.new.counts ≡ has_counted self.old.counts)) }
-        ensures counts { IfOk result (λ legal. IsTrue legal → IfSome self.old.watch (λ w.
-            has_counted self.new.counts ≡ judged_after (has_counted self.old.counts) (shown w sample.now))) }
-        ensures legal { IfOk result (λ legal. legal ≡ is_legal self.old.watch self.old.answers sample.now) }
-        ensures watch { IfOk result (λ legal. IsTrue legal →
-            IfSome self.old.watch (λ w. self.new.watch ≡ Some (next_watch w sample.now))) }
-        ensures answers { IfOk result (λ legal. IsTrue legal →
-            IfSome self.old.watch (λ w. self.new.answers ≡ answers_after self.old.answers (shown w sample.now))) }
+        ensures legal { IfOk result (λ legal. IsNone self.old.finding → legal ≡ is_none self.new.finding) }
+        ensures step { IfOk result (λ _. IsNone self.old.finding → self.old.found ≡ 0 →
+            found_by self.new.finding (state_of self.new)
+            ≡ sample_judged spot undefined.entry sample.now (state_of self.old) self.old.watch) }
     {
         let Some(watch) = self.watch.as_mut() else {
             self.leave_out(sample);
@@ -109,54 +101,100 @@ impl Judge<'_> {
         };
         count(&mut self.counts.samples);
         let (before, transfer) = (watch.last, watch.transfer);
-        let datum = match watch.push(sample) {
-            Ok(datum) => datum,
+        match watch.push(sample) {
+            Ok(datum) => self.show(datum, spot, &before, sample),
             Err(rule) => {
-                let samples = Some((before, *sample));
-                self.find(spot, Broken::Order(rule), samples, undefined);
-                if !before.address_strobe {
-                    self.forget(&transfer, false);
-                }
-                self.begin_after(sample);
-                return Ok(false);
+                self.breaks(rule, &transfer, spot, &before, sample, undefined);
+                Ok(false)
             }
-        };
-        self.opens(&before, sample);
+        }
+    }
+
+    /// Keeps the rule that a sample breaks.
+    fn breaks(
+        &mut self,
+        rule: Rule,
+        transfer: &Transfer,
+        spot: Spot,
+        before: &Sample,
+        sample: &Sample,
+        undefined: Option<&'static str>,
+    )
+        ensures task { KeepsTask self.old self.new }
+        ensures found { self.new.finding ≡
+            Some (order_finding spot undefined.entry before.now sample.now self.old.transfer rule) }
+        ensures counts { self.new.counts ≡ self.old.counts }
+        ensures transfer { self.new.transfer ≡ None }
+    {
+        let samples = Some((*before, *sample));
+        self.find(spot, Broken::Order(rule), samples, undefined);
+        if !before.address_strobe {
+            self.forget(transfer, false);
+        }
+        self.begin_after(sample);
+    }
+
+    /// Takes a sample that breaks no rule of the order, with the datum that it shows.
+    fn show(
+        &mut self,
+        datum: Option<Datum>,
+        spot: Spot,
+        before: &Sample,
+        sample: &Sample,
+    ) -> Result<bool, AllocError>
+        ensures task { IfOk result (λ _. KeepsTask self.old self.new) }
+        ensures legal { IfOk result (λ legal. IsNone self.old.finding → legal ≡ is_none self.new.finding) }
+        ensures show { IfOk result (λ _. IsNone self.old.finding →
+            found_by self.new.finding (state_of self.new) ≡
+            course_map (closed before.now sample.now)
+            (shown_judged spot before.now sample.now (state_of self.old) datum)) }
+    {
+        self.opens(before, sample);
         let Some(datum) = datum else {
-            self.closes(&before, sample);
+            self.closes(before, sample);
             return Ok(true);
         };
-        if !self.datum(&datum, spot, &before, sample)? {
+        self.note(&datum);
+        self.print_datum(&datum, spot, sample)?;
+        if !self.answer(&datum, spot, before, sample) {
             return Ok(false);
         }
-        self.closes(&before, sample);
+        self.closes(before, sample);
         Ok(true)
     }
 
-    /// Counts a datum that is not judged.
+    /// Counts a datum that is not judged. After a finding nothing is counted.
     #[tactic(auto, unfolding(crate::specs::Standing::standing))]
     pub(crate) fn skip(&mut self)
-        ensures standing { standing self.new ≡ standing self.old }
+        ensures standing { standing self.new ≡ course_map left_out (standing self.old) }
         ensures task { KeepsTask self.old self.new }
     {
-        count(&mut self.counts.skipped);
+        if self.finding.is_none() {
+            count(&mut self.counts.skipped);
+        }
     }
 
-    /// Counts a sample at which nothing has changed.
+    /// Counts a sample at which nothing has changed. After a finding nothing is counted.
     #[tactic(auto, unfolding(crate::specs::Standing::standing))]
     pub(crate) fn pass(&mut self)
-        ensures standing { standing self.new ≡ standing self.old }
+        ensures standing { standing self.new ≡ course_map passed (standing self.old) }
         ensures task { KeepsTask self.old self.new }
     {
-        count(&mut self.counts.samples);
+        if self.finding.is_none() {
+            count(&mut self.counts.samples);
+        }
     }
 
-    /// Forgets at which time AS* fell, which the trace does not show.
+    /// Forgets at which time AS* fell, which the trace does not show. After a finding nothing is
+    /// forgotten.
     #[tactic(auto, unfolding(crate::specs::Standing::standing))]
     pub(crate) fn forget_start(&mut self)
-        ensures standing { standing self.new ≡ standing self.old }
+        ensures standing { standing self.new ≡ course_map unstarted (standing self.old) }
         ensures task { KeepsTask self.old self.new }
     {
+        if self.finding.is_some() {
+            return;
+        }
         if let Some(transfer) = self.transfer.as_mut() {
             transfer.since = None;
         }
@@ -170,9 +208,16 @@ impl Judge<'_> {
         samples: Option<(Sample, Sample)>,
         undefined: Option<&'static str>,
     )
-        ensures found { IsSome self.new.finding }
-        ensures task { KeepsTask self.old self.new }
-        ensures counts { self.new.counts ≡ self.old.counts }
+        ensures { self.new ≡ record self.old {
+          finding = Some (record {
+            line = spot.line;
+            time = spot.time;
+            broken = broken;
+            samples = samples;
+            transfer = self.old.transfer;
+            undefined = undefined.entry;
+          });
+        } }
     {
         self.finding = Some(Finding {
             line: spot.line,
@@ -186,9 +231,10 @@ impl Judge<'_> {
 
     /// Notes that a transfer or a tenure begins at a sample.
     fn opens(&mut self, before: &Sample, sample: &Sample)
-        ensures course { KeepsCourse self.old self.new }
-        ensures task { KeepsTask self.old self.new }
-        ensures counts { has_counted self.new.counts ≡ has_counted self.old.counts }
+        ensures { self.new ≡ record self.old {
+          counts = counts_opened before.now sample.now self.old.counts;
+          transfer = opened_at before.now sample.now self.old.transfer;
+        } }
     {
         if before.address_strobe && !sample.address_strobe {
             self.transfer = Some(OpenTransfer::opened(sample));
@@ -203,55 +249,72 @@ impl Judge<'_> {
 
     /// Notes that a transfer ends at a sample.
     fn closes(&mut self, before: &Sample, sample: &Sample)
-        ensures course { KeepsCourse self.old self.new }
-        ensures task { KeepsTask self.old self.new }
-        ensures counts { has_counted self.new.counts ≡ has_counted self.old.counts }
+        ensures { self.new ≡ record self.old { transfer = closed_at before.now sample.now self.old.transfer } }
     {
         if !before.address_strobe && sample.address_strobe {
             self.transfer = None;
         }
     }
 
-    /// Takes a datum, and returns whether the board's answer is legal.
-    fn datum(
-        &mut self,
-        datum: &Datum,
-        spot: Spot,
-        before: &Sample,
-        sample: &Sample,
-    ) -> Result<bool, AllocError>
-        ensures legal { IfOk result (λ legal. legal ≡ accepts self.old.answers (Some datum.now)) }
-        ensures watch { IfOk result (λ legal. IsTrue legal → self.new.watch ≡ self.old.watch) }
-        ensures answers { IfOk result (λ legal. IsTrue legal → self.new.answers ≡ answers_after self.old.answers (Some datum.now)) }
-        ensures task { IfOk result (λ _. KeepsTask self.old self.new) }
-        ensures finding { IfOk result (λ legal. IsTrue legal → self.new.finding ≡ self.old.finding) }
-        ensures found { IfOk result (λ legal. IsFalse legal → IsSome self.new.finding) }
-        ensures counts { IfOk result (λ _. IsTrue (has_counted self.new.counts)) }
+    /// Counts a datum.
+    fn note(&mut self, datum: &Datum)
+        ensures { self.new ≡ record self.old {
+          counts = with_data self.old.counts;
+          transfer = with_datum datum.now self.old.transfer;
+        } }
     {
         count(&mut self.counts.data);
         if let Some(transfer) = self.transfer.as_mut() {
             transfer.data = u64::from(datum.index);
         }
-        if self.options.log {
-            let slot = driver_of(sample.drivers);
-            print_datum(&log_datum(datum, spot.time, slot), &mut self.pending)?;
+    }
+
+    /// Prints the line of a datum, if the bus log is printed.
+    fn print_datum(&mut self, datum: &Datum, spot: Spot, sample: &Sample) -> Result<(), AllocError>
+        ensures { IfOk result (λ _. self.new ≡ record self.old { pending = self.new.pending }) }
+    {
+        if !self.options.log {
+            return Ok(());
         }
+        let slot = driver_of(sample.drivers);
+        print_datum(&log_datum(datum, spot.time, slot), &mut self.pending)
+    }
+
+    /// Takes the answer to a datum, and returns whether it is that of its board.
+    fn answer(&mut self, datum: &Datum, spot: Spot, before: &Sample, sample: &Sample) -> bool
+        ensures task { KeepsTask self.old self.new }
+        ensures legal { IsNone self.old.finding → result ≡ is_none self.new.finding }
+        ensures answer { IsNone self.old.finding →
+            found_by self.new.finding (state_of self.new)
+            ≡ datum_judged spot before.now sample.now datum.now (state_of self.old) self.old.answers }
+    {
         let Some(answers) = self.answers.as_mut() else {
-            return Ok(true);
+            return true;
         };
         let Err(wrong) = answers.take(datum) else {
-            return Ok(true);
+            return true;
         };
         if let Some(board) = wrong.board {
             let end = wrong.offset.saturating_add(u32::from(wrong.len));
             answers.forget(board, wrong.offset, end);
         }
-        let slot = self.slot_of(&wrong);
-        let broken = Broken::Answer(wrong, Asked::Datum(*datum), slot);
+        self.refuse(&wrong, datum, spot, before, sample);
+        false
+    }
+
+    /// Keeps the datum whose answer is wrong.
+    fn refuse(&mut self, wrong: &Wrong, datum: &Datum, spot: Spot, before: &Sample, sample: &Sample)
+        ensures task { KeepsTask self.old self.new }
+        ensures found { self.new.finding ≡ Some (answer_finding spot self.old.boards.now before.now sample.now
+            self.old.transfer datum.now wrong.now) }
+        ensures counts { self.new.counts ≡ self.old.counts }
+        ensures transfer { self.new.transfer ≡ None }
+    {
+        let slot = self.slot_of(wrong);
+        let broken = Broken::Answer(*wrong, Asked::Datum(*datum), slot);
         self.find(spot, broken, Some((*before, *sample)), None);
         self.forget_transfer();
         self.begin_after(sample);
-        Ok(false)
     }
 
     /// Forgets the bytes of the transfer in which an answer is wrong.
@@ -267,17 +330,32 @@ impl Judge<'_> {
     }
 
     /// The slot of the board that answers wrongly, if it is a board.
-    fn slot_of(&self, wrong: &Wrong) -> Option<u8> {
+    fn slot_of(&self, wrong: &Wrong) -> Option<u8>
+        ensures { result ≡ slot_of self.now.boards.now wrong.now.board }
+    {
         let board = self.boards.get(wrong.board?)?;
         Some(board.slot)
     }
 
-    /// Takes a rule that a local port breaks. Any byte of its board may have changed.
+    /// Takes a rule that a local port breaks. Any byte of its board may have changed. After a finding
+    /// nothing is taken.
+    #[tactic(auto, unfolding(crate::specs::Standing::standing, crate::specs::Dumps::breach_taken))]
     pub(crate) fn port_breaks(&mut self, rule: Rule, slot: u8, spot: Spot)
-        ensures found { IsSome self.new.finding }
+        ensures standing { standing self.new ≡ course_then (breach_taken spot slot rule) (standing self.old) }
+        ensures fallen { HasFallen (standing self.new) }
         ensures task { KeepsTask self.old self.new }
     {
+        if self.finding.is_some() {
+            return;
+        }
         self.find(spot, Broken::Port(rule, slot), None, None);
+        self.forget_board(slot);
+    }
+
+    /// Forgets the bytes of the board in a slot.
+    fn forget_board(&mut self, slot: u8)
+        ensures { self.new ≡ record self.old { answers = self.new.answers } }
+    {
         let boards = self.boards;
         if let Some(answers) = self.answers.as_mut() {
             for (index, board) in boards.iter().enumerate() {
@@ -290,9 +368,7 @@ impl Judge<'_> {
 
     /// Prints the line of an access, if the bus log is printed.
     fn print_access(&mut self, slot: u8, access: &Local, spot: Spot) -> Result<(), AllocError>
-        ensures course { KeepsCourse self.old self.new }
-        ensures task { KeepsTask self.old self.new }
-        ensures counts { self.new.counts ≡ self.old.counts }
+        ensures { IfOk result (λ _. self.new ≡ record self.old { pending = self.new.pending }) }
     {
         if !self.options.log {
             return Ok(());
@@ -315,7 +391,8 @@ impl Judge<'_> {
         self.boards.iter().position(|board| board.slot == slot)
     }
 
-    /// Takes an access by the local port in a slot, and returns whether its answer is legal.
+    /// Takes an access by the local port in a slot, and returns whether its answer is legal. After a
+    /// finding nothing is taken.
     ///
     /// # Errors
     ///
@@ -327,45 +404,40 @@ impl Judge<'_> {
         spot: Spot,
     ) -> Result<bool, AllocError>
         ensures standing { IfOk result (λ _.
-            standing self.new ≡ option_and_then (access_taken slot access.now) (standing self.old)) }
-        ensures legal { IfOk result (λ legal. IsSome (standing self.old) → legal ≡ is_some (standing self.new)) }
+            standing self.new ≡ course_then (access_taken spot slot access.now) (standing self.old)) }
+        ensures legal { IfOk result (λ legal. IsStanding (standing self.old) → legal ≡ stands (standing self.new)) }
         ensures task { IfOk result (λ _. KeepsTask self.old self.new) }
     {
+        if self.finding.is_some() {
+            return Ok(false);
+        }
         let board = self.board_in(slot);
-        self.access_at(board, slot, access, spot)
+        count(&mut self.counts.accesses);
+        self.print_access(slot, access, spot)?;
+        Ok(self.access_at(board, slot, access, spot))
     }
 
     /// Takes an access of a board by its index.
-    fn access_at(
-        &mut self,
-        board: Option<usize>,
-        slot: u8,
-        access: &Local,
-        spot: Spot,
-    ) -> Result<bool, AllocError>
-        ensures task { IfOk result (λ _. KeepsTask self.old self.new) }
-        ensures watch { IfOk result (λ legal. IsTrue legal → self.new.watch ≡ self.old.watch) }
-        ensures counts { IfOk result (λ _. IsTrue (has_counted self.new.counts)) }
-        ensures finding { IfOk result (λ legal. IsTrue legal → self.new.finding ≡ self.old.finding) }
-        ensures found { IfOk result (λ legal. IsFalse legal → IsSome self.new.finding) }
-        ensures known { IfOk result (λ legal. IsTrue legal → known_at access.now board self.old.answers ≡ Some self.new.answers) }
-        ensures wrong { IfOk result (λ legal. IsFalse legal → known_at access.now board self.old.answers ≡ None) }
+    fn access_at(&mut self, board: Option<usize>, slot: u8, access: &Local, spot: Spot) -> bool
+        ensures task { KeepsTask self.old self.new }
+        ensures legal { IsNone self.old.finding → result ≡ is_none self.new.finding }
+        ensures access { IsNone self.old.finding →
+            found_by self.new.finding (state_of self.new)
+            ≡ access_judged spot slot access.now (state_of self.old) board self.old.answers }
     {
-        count(&mut self.counts.accesses);
-        self.print_access(slot, access, spot)?;
         let Some(board) = board else {
-            return Ok(true);
+            return true;
         };
         let Some(answers) = self.answers.as_mut() else {
-            return Ok(true);
+            return true;
         };
         let Err(wrong) = answers.take_local(board, access) else {
-            return Ok(true);
+            return true;
         };
         let end = access.offset.saturating_add(u32::from(access.len));
         answers.forget(board, access.offset, end);
         let broken = Broken::Answer(wrong, Asked::Access(*access), Some(slot));
         self.find(spot, broken, None, None);
-        Ok(false)
+        false
     }
 }

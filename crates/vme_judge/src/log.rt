@@ -1,10 +1,9 @@
 //! A bus log, judged: each datum as the samples of a handshake that shows it.
-ghost use Rattle.std.specs.Prelude.{◌≡◌, ◌≢◌, [], ◌∷◌, ◌++◌, true, false, Some, None, not, IfOk, IfSome, IsSome, is_some};
-ghost use Rattle.std.specs.Option.{option_and_then};
+ghost use Rattle.std.specs.Prelude.{◌≡◌, ◌≢◌, [], ◌∷◌, Option, true, false, Some, None, not, IfOk, is_some};
 ghost use Rattle.vme_judge.specs.declared.log.Taken.TheVariants.{Illegal, Legal};
-ghost use Rattle.vme_judge.specs.Logs.{access_taken, datum_taken, is_broken, is_next, local_of, shown_by, so_far};
-ghost use Rattle.vme_judge.specs.Samples.{address_lines, datum_samples, driver_bit, handshake_samples, lines_of, opening_samples, quiet, with_data};
-ghost use Rattle.vme_judge.specs.Standing.{samples_taken, standing, IsOnce, KeepsTask};
+ghost use Rattle.vme_judge.specs.Logs.{access_spot, access_taken, addressed_by, begun_by, datum_taken, first_taken, is_broken, is_next, local_of, shown_by, so_far};
+ghost use Rattle.vme_judge.specs.Samples.{address_lines, datum_samples, driver_bit, handshake_samples, lines_of, quiet, with_data};
+ghost use Rattle.vme_judge.specs.Standing.{course_then, samples_taken, standing, stands, Falls, Found, HasFallen, IsOnce, IsStanding, KeepsTask, Standing, Stands};
 
 use crate::judge::{Judge, Spot};
 use std::alloc::AllocError;
@@ -180,14 +179,15 @@ impl LogState {
         datum: &LogDatum,
         line: u64,
     ) -> Result<Taken, AllocError>
-        ensures taken { IfOk result (λ taken. IfSome (standing judge.old) (λ m.
-            so_far (is_broken taken) (standing judge.new) self.new.last ≡ datum_taken m self.old.last datum.now)) }
-        ensures stays { IfOk result (λ _. standing judge.old ≡ None → standing judge.new ≡ None) }
+        ensures taken { (m : Standing) → standing judge.old ≡ Stands m → IfOk result (λ taken.
+            so_far (is_broken taken) (standing judge.new) self.new.last ≡ datum_taken line m self.old.last datum.now) }
+        ensures stays { (found : Option Found) → standing judge.old ≡ Falls found →
+            IfOk result (λ _. standing judge.new ≡ Falls found) }
         ensures breaks { IfOk result (λ taken. is_broken taken ≡ true → standing judge.new ≡ standing judge.old) }
-        ensures stops { IfOk result (λ taken. taken ≡ Illegal → standing judge.new ≡ None) }
+        ensures stops { IfOk result (λ taken. taken ≡ Illegal → HasFallen (standing judge.new)) }
         ensures once { IfOk result (λ taken. IsOnce judge.old → IsOnce judge.new) }
-        ensures ends { IfOk result (λ taken. IsOnce judge.old → taken ≡ Legal → IsSome (standing judge.old) →
-            IsSome (standing judge.new)) }
+        ensures ends { IfOk result (λ taken. IsOnce judge.old → taken ≡ Legal → IsStanding (standing judge.old) →
+            IsStanding (standing judge.new)) }
     {
         let spot = Spot {
             line,
@@ -215,12 +215,12 @@ impl LogState {
         spot: Spot,
     ) -> Result<Taken, AllocError>
         ensures taken { IfOk result (λ taken. so_far (is_broken taken) (standing judge.new) self.new.last ≡
-            shown_by (Some datum.now) (option_and_then (samples_taken (opening_samples datum.now ++ datum_samples datum.now)) (standing judge.old))) }
+            shown_by (Some datum.now) (course_then (first_taken spot datum.now) (standing judge.old))) }
         ensures whole { IfOk result (λ taken. is_broken taken ≡ false) }
-        ensures stops { IfOk result (λ taken. taken ≡ Illegal → standing judge.new ≡ None) }
+        ensures stops { IfOk result (λ taken. taken ≡ Illegal → HasFallen (standing judge.new)) }
         ensures once { IfOk result (λ taken. IsOnce judge.old → IsOnce judge.new) }
-        ensures ends { IfOk result (λ taken. IsOnce judge.old → taken ≡ Legal → IsSome (standing judge.old) →
-            IsSome (standing judge.new)) }
+        ensures ends { IfOk result (λ taken. IsOnce judge.old → taken ≡ Legal → IsStanding (standing judge.old) →
+            IsStanding (standing judge.new)) }
     {
         let is_legal = open(judge, datum, spot)?;
         if is_legal {
@@ -237,12 +237,12 @@ impl LogState {
         spot: Spot,
     ) -> Result<Taken, AllocError>
         ensures taken { IfOk result (λ taken. so_far (is_broken taken) (standing judge.new) self.new.last ≡
-            shown_by (Some datum.now) (option_and_then (samples_taken (datum_samples datum.now)) (standing judge.old))) }
+            shown_by (Some datum.now) (course_then (samples_taken spot (datum_samples datum.now)) (standing judge.old))) }
         ensures whole { IfOk result (λ taken. is_broken taken ≡ false) }
-        ensures stops { IfOk result (λ taken. taken ≡ Illegal → standing judge.new ≡ None) }
+        ensures stops { IfOk result (λ taken. taken ≡ Illegal → HasFallen (standing judge.new)) }
         ensures once { IfOk result (λ taken. IsOnce judge.old → IsOnce judge.new) }
-        ensures ends { IfOk result (λ taken. IsOnce judge.old → taken ≡ Legal → IsSome (standing judge.old) →
-            IsSome (standing judge.new)) }
+        ensures ends { IfOk result (λ taken. IsOnce judge.old → taken ≡ Legal → IsStanding (standing judge.old) →
+            IsStanding (standing judge.new)) }
     {
         self.last = Some(*datum);
         let lines = with_data(datum, quiet(datum, false));
@@ -257,9 +257,9 @@ impl LogState {
     fn illegal(&mut self, judge: &mut Judge<'_>) -> Result<Taken, AllocError>
         ensures stands { IfOk result (λ taken. standing judge.new ≡ standing judge.old) }
         ensures whole { IfOk result (λ taken. is_broken taken ≡ false) }
-        ensures stops { IfOk result (λ taken. taken ≡ Illegal → standing judge.new ≡ None) }
+        ensures stops { IfOk result (λ taken. taken ≡ Illegal → HasFallen (standing judge.new)) }
         ensures once { IfOk result (λ taken. IsOnce judge.old → IsOnce judge.new) }
-        ensures ends { IfOk result (λ taken. IsOnce judge.old → standing judge.old ≡ None → taken ≢ Legal) }
+        ensures ends { IfOk result (λ taken. IsOnce judge.old → HasFallen (standing judge.old) → taken ≢ Legal) }
     {
         self.last = None;
         Ok(if judge.goes_on()? {
@@ -281,12 +281,13 @@ impl LogState {
         line: u64,
     ) -> Result<Taken, AllocError>
         ensures taken { IfOk result (λ taken. so_far (is_broken taken) (standing judge.new) self.new.last ≡
-            shown_by self.old.last (option_and_then (access_taken access.now.slot (local_of access.now)) (standing judge.old))) }
+            shown_by self.old.last (course_then (access_taken (access_spot line access.now) access.now.slot (local_of access.now))
+            (standing judge.old))) }
         ensures whole { IfOk result (λ taken. is_broken taken ≡ false) }
-        ensures stops { IfOk result (λ taken. taken ≡ Illegal → standing judge.new ≡ None) }
+        ensures stops { IfOk result (λ taken. taken ≡ Illegal → HasFallen (standing judge.new)) }
         ensures once { IfOk result (λ taken. IsOnce judge.old → IsOnce judge.new) }
-        ensures ends { IfOk result (λ taken. IsOnce judge.old → taken ≡ Legal → IsSome (standing judge.old) →
-            IsSome (standing judge.new)) }
+        ensures ends { IfOk result (λ taken. IsOnce judge.old → taken ≡ Legal → IsStanding (standing judge.old) →
+            IsStanding (standing judge.new)) }
     {
         let spot = Spot {
             line,
@@ -311,8 +312,8 @@ impl LogState {
 /// Takes samples, and returns whether all are legal.
 fn take_all(judge: &mut Judge<'_>, samples: &[Sample], spot: Spot) -> Result<bool, AllocError>
     ensures standing { IfOk result (λ _.
-        standing judge.new ≡ option_and_then (samples_taken samples.now) (standing judge.old)) }
-    ensures legal { IfOk result (λ legal. IsSome (standing judge.old) → legal ≡ is_some (standing judge.new)) }
+        standing judge.new ≡ course_then (samples_taken spot samples.now) (standing judge.old)) }
+    ensures legal { IfOk result (λ legal. IsStanding (standing judge.old) → legal ≡ stands (standing judge.new)) }
     ensures task { IfOk result (λ _. KeepsTask judge.old judge.new) }
 {
     for sample in samples {
@@ -327,8 +328,8 @@ fn take_all(judge: &mut Judge<'_>, samples: &[Sample], spot: Spot) -> Result<boo
 /// Ends the transfer before, if there is one, and begins that of a datum.
 fn open(judge: &mut Judge<'_>, datum: &LogDatum, spot: Spot) -> Result<bool, AllocError>
     ensures standing { IfOk result (λ _.
-        standing judge.new ≡ option_and_then (samples_taken (opening_samples datum.now)) (standing judge.old)) }
-    ensures legal { IfOk result (λ legal. IsSome (standing judge.old) → legal ≡ is_some (standing judge.new)) }
+        standing judge.new ≡ course_then (addressed_by spot datum.now) (standing judge.old)) }
+    ensures legal { IfOk result (λ legal. IsStanding (standing judge.old) → legal ≡ stands (standing judge.new)) }
     ensures task { IfOk result (λ _. KeepsTask judge.old judge.new) }
 {
     if !datum.is_wide {
@@ -343,9 +344,8 @@ fn open(judge: &mut Judge<'_>, datum: &LogDatum, spot: Spot) -> Result<bool, All
 
 /// AS* falls.
 fn fall(judge: &mut Judge<'_>, datum: &LogDatum, spot: Spot) -> Result<bool, AllocError>
-    ensures standing { IfOk result (λ _. standing judge.new ≡
-        option_and_then (samples_taken (quiet datum.now true ∷ quiet datum.now false ∷ [])) (standing judge.old)) }
-    ensures legal { IfOk result (λ legal. IsSome (standing judge.old) → legal ≡ is_some (standing judge.new)) }
+    ensures standing { IfOk result (λ _. standing judge.new ≡ course_then (begun_by spot datum.now) (standing judge.old)) }
+    ensures legal { IfOk result (λ legal. IsStanding (standing judge.old) → legal ≡ stands (standing judge.new)) }
     ensures task { IfOk result (λ _. KeepsTask judge.old judge.new) }
 {
     let begins = take_all(judge, &[quiet(datum, true), quiet(datum, false)], spot)?;
@@ -363,8 +363,8 @@ fn handshake(
     is_acknowledged: bool,
 ) -> Result<bool, AllocError>
     ensures standing { IfOk result (λ _. standing judge.new ≡
-        option_and_then (samples_taken (handshake_samples datum.now quiet is_acknowledged)) (standing judge.old)) }
-    ensures legal { IfOk result (λ legal. IsSome (standing judge.old) → legal ≡ is_some (standing judge.new)) }
+        course_then (samples_taken spot (handshake_samples datum.now quiet is_acknowledged)) (standing judge.old)) }
+    ensures legal { IfOk result (λ legal. IsStanding (standing judge.old) → legal ≡ stands (standing judge.new)) }
     ensures task { IfOk result (λ _. KeepsTask judge.old judge.new) }
 {
     let strobed = Sample {

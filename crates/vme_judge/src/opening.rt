@@ -1,7 +1,7 @@
 //! What is known before the first sample.
-ghost use Rattle.std.specs.Prelude.{◌≡◌, ◌++◌, map, Some, IfOk};
+ghost use Rattle.std.specs.Prelude.{◌≡◌, ◌++◌, map, IfOk};
 ghost use Rattle.vme_judge.specs.Openings.{open_at, opening, opening_answers, opens_in, opens_of, rule_of};
-ghost use Rattle.vme_judge.specs.Standing.{standing};
+ghost use Rattle.vme_judge.specs.Standing.{standing, Stands};
 
 use crate::boards::Board;
 use crate::counts::Counts;
@@ -103,7 +103,7 @@ impl<'a> Judge<'a> {
         options: &'a Options<'a>,
         boards: &'a [Board],
     ) -> Result<Judge<'a>, AllocError>
-        ensures opens { IfOk result (λ judge. standing judge ≡ Some (opening options.now boards.now)) }
+        ensures opens { IfOk result (λ judge. standing judge ≡ Stands (opening options.now boards.now)) }
         ensures options { IfOk result (λ judge. judge.options.now ≡ options.now) }
         ensures found { IfOk result (λ judge. judge.found ≡ 0) }
     {

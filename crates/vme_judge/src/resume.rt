@@ -1,6 +1,7 @@
 //! What follows a finding, where the judgement goes on.
 ghost use Rattle.std.specs.Prelude.{◌≡◌, None, IfOk, IsFalse};
-ghost use Rattle.vme_judge.specs.Standing.{begun, has_counted, standing, IsOnce, KeepsTask};
+ghost use Rattle.vme_judge.specs.Seen.{counts_waiting};
+ghost use Rattle.vme_judge.specs.Standing.{begun, standing, HasFallen, IsOnce, KeepsTask};
 
 use crate::counts::count;
 use crate::judge::Judge;
@@ -16,10 +17,11 @@ impl Judge<'_> {
     pub(crate) fn leave_out(&mut self, sample: &Sample)
         ensures task { KeepsTask self.old self.new }
         ensures finding { self.new.finding ≡ self.old.finding }
-        ensures counts { has_counted self.new.counts ≡ has_counted self.old.counts }
+        ensures counts { self.old.found ≡ 0 → self.new.counts ≡ counts_waiting sample.now self.old.counts }
         ensures begins { self.old.found ≡ 0 → self.old.watch ≡ None →
             self.new.watch ≡ begun self.old.scope sample.now }
         ensures answers { self.old.found ≡ 0 → self.new.answers ≡ self.old.answers }
+        ensures transfer { self.old.found ≡ 0 → self.new.transfer ≡ self.old.transfer }
     {
         if sample.is_at_rest() && (self.found == 0 || self.is_lawful(sample)) {
             self.watch = Some(Watch::new(self.scope, *sample));
@@ -43,6 +45,7 @@ impl Judge<'_> {
         ensures task { KeepsTask self.old self.new }
         ensures finding { self.new.finding ≡ self.old.finding }
         ensures counts { self.new.counts ≡ self.old.counts }
+        ensures transfer { self.new.transfer ≡ None }
     {
         self.transfer = None;
         self.watch = None;
@@ -61,6 +64,7 @@ impl Judge<'_> {
         ensures finding { self.new.finding ≡ self.old.finding }
         ensures counts { self.new.counts ≡ self.old.counts }
         ensures watch { self.new.watch ≡ self.old.watch }
+        ensures transfer { self.new.transfer ≡ self.old.transfer }
     {
         let transfer = Transfer::opened(&self.scope, sample);
         let is_vague = sample.am_undefined || sample.lines_undefined & transfer.counted != 0;
@@ -73,6 +77,7 @@ impl Judge<'_> {
         ensures finding { self.new.finding ≡ self.old.finding }
         ensures counts { self.new.counts ≡ self.old.counts }
         ensures watch { self.new.watch ≡ self.old.watch }
+        ensures transfer { self.new.transfer ≡ self.old.transfer }
     {
         let boards = self.boards;
         let Some(answers) = self.answers.as_mut() else {
@@ -98,9 +103,9 @@ impl Judge<'_> {
     #[tactic(auto, unfolding(crate::specs::Standing::standing))]
     pub(crate) fn goes_on(&mut self) -> Result<bool, AllocError>
         ensures stands { IfOk result (λ _. standing self.new ≡ standing self.old) }
-        ensures stops { IfOk result (λ goes_on. IsFalse goes_on → standing self.new ≡ None) }
+        ensures stops { IfOk result (λ goes_on. IsFalse goes_on → HasFallen (standing self.new)) }
         ensures once { IfOk result (λ _. IsOnce self.old → IsOnce self.new) }
-        ensures ends { IfOk result (λ goes_on. IsOnce self.old → standing self.old ≡ None → IsFalse goes_on) }
+        ensures ends { IfOk result (λ goes_on. IsOnce self.old → HasFallen (standing self.old) → IsFalse goes_on) }
         ensures options { IfOk result (λ _. self.new.options ≡ self.old.options) }
     {
         let Some(finding) = self.finding else {

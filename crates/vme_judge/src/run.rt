@@ -69,6 +69,7 @@ impl<'a> Run<'a> {
         ensures options { IfOk result (λ run. run.judge.options.now ≡ options.now) }
         ensures found { IfOk result (λ run. run.judge.found ≡ 0) }
         ensures line { IfOk result (λ run. run.log.line ≡ []) }
+        ensures number { IfOk result (λ run. run.log.number ≡ 1) }
         ensures kind { IfOk result (λ run. run.kind ≡ Unknown) }
     {
         let Ok(vcd) = VcdReader::new(alloc, map) else {
@@ -200,7 +201,7 @@ impl<'a> Run<'a> {
 
     /// Takes what a line of a log says.
     fn take_entry(&mut self, entry: &LogEntry, line: u64) -> Result<bool, AllocError>
-        ensures line { IfOk result (λ _. TakesLine self.old self.new (Some entry.now)) }
+        ensures line { IfOk result (λ _. TakesLine self.old self.new line (Some entry.now)) }
         ensures stays { IfOk result (λ _. StaysFound self.old self.new) }
         ensures stops { IfOk result (λ goes_on. goes_on ≡ false → IsOver (run_so_far self.new)) }
         ensures once { IfOk result (λ goes_on. RunsOnce self.old self.new goes_on) }

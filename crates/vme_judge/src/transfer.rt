@@ -1,4 +1,7 @@
 //! The transfer in which a sample lies.
+ghost use Rattle.std.specs.Prelude.{◌≡◌};
+ghost use Rattle.vme_judge.specs.Seen.{driver_of, opened_by};
+
 use vme_protocol::{Sample, Transfer};
 
 /// The bytes of a group that a cycle reads or writes.
@@ -24,7 +27,9 @@ pub(crate) struct OpenTransfer {
 }
 
 /// Returns the slot that drives BBSY*, if exactly one does.
-pub(crate) fn driver_of(drivers: u32) -> Option<u8> {
+pub(crate) fn driver_of(drivers: u32) -> Option<u8>
+    ensures { result ≡ driver_of drivers }
+{
     if drivers == 0 || drivers & drivers.wrapping_sub(1) != 0 {
         return None;
     }
@@ -45,10 +50,13 @@ pub(crate) fn bytes_of(transfer: &Transfer) -> u32 {
 
 impl OpenTransfer {
     /// Returns the transfer that a sample opens.
-    pub(crate) fn opened(sample: &Sample) -> OpenTransfer {
+    #[tactic(auto, unfolding(crate::specs::Seen::opened_by))]
+    pub(crate) fn opened(sample: &Sample) -> OpenTransfer
+        ensures { result ≡ opened_by sample.now }
+    {
         OpenTransfer {
             am: sample.am,
-            address: (sample.lines >> 32) as u32 & !1,
+            address: (sample.lines >> 32) as u32 & 0xffff_fffe,
             slot: driver_of(sample.drivers),
             data: 0,
             since: Some(sample.time),

@@ -13,7 +13,7 @@ loop-piece-init g c = record {
   write = c.requires.writer_unmarked;
   judged = between_begins c.args.options.now c.args.boards.now (g.S.Source.remaining c.args.trace.now) c.in_ok-run.run'
       c.in_ok-run.ensures.opens c.in_ok-run.ensures.going (ap (λ (o : Options). o.limit) c.in_ok-run.ensures.options) c.in_ok-run.ensures.found
-      c.in_ok-run.ensures.line c.in_ok-run.ensures.kind;
+      c.in_ok-run.ensures.line c.in_ok-run.ensures.number c.in_ok-run.ensures.kind;
   dump = dump_begins c.args.options.now c.args.map.now c.args.boards.now (g.S.Source.remaining c.args.trace.now) c.in_ok-run.run'
       c.in_ok-run.ensures.dump c.in_ok-run.ensures.going c.in_ok-run.ensures.options c.in_ok-run.ensures.found
       c.in_ok-run.ensures.reader c.in_ok-run.ensures.line c.in_ok-run.ensures.kind;

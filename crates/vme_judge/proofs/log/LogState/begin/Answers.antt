@@ -1,8 +1,8 @@
-use Rattle.std.proofs.Common.{◌≡◌, Some, None, refl, ap, ◌∙◌}
-use Rattle.vme_judge.specs.Logs.{shown_by, is_broken}
-use Rattle.vme_judge.specs.Samples.{opening_samples, datum_samples}
-use Rattle.vme_judge.specs.Standing.{standing}
-use Rattle.vme_judge.proofs.Logs.{if_ok, if_ok_both, none_then, opened_none, opened_then, shown_illegal}
+use Rattle.std.proofs.Common.{Some, ap, ◌∙◌}
+use Rattle.vme_judge.specs.Logs.{addressed_by, is_broken, shown_by}
+use Rattle.vme_judge.specs.Samples.{datum_samples}
+use Rattle.vme_judge.specs.Standing.{HasFallen, course_then, samples_taken, standing, stands}
+use Rattle.vme_judge.proofs.Logs.{fell_after, first_fallen, if_ok, if_ok_both, one_after, shown_illegal}
 use Rattle.vme_judge.proofs.log.LogState.begin.Goals as goal
 
 pub returns-then-is_legal-clause-taken : goal.returns-then-is_legal-clause-taken
@@ -10,12 +10,14 @@ returns-then-is_legal-clause-taken c =
     if_ok _ _ c.exchange.result c.exchange.ensures.taken (λ taken holds.
     holds
     ∙ ap (shown_by (Some c.args.datum.now))
-    (opened_then (opening_samples c.args.datum.now) (datum_samples c.args.datum.now) _ _ _ c.in_ok-is_legal.ensures.standing refl))
+    (ap (course_then (samples_taken c.args.spot (datum_samples c.args.datum.now))) c.in_ok-is_legal.ensures.standing
+    ∙ one_after (addressed_by c.args.spot c.args.datum.now) (samples_taken c.args.spot (datum_samples c.args.datum.now)) _))
 
 pub returns-clause-taken : goal.returns-clause-taken
 returns-clause-taken c =
-    let none : standing c.open.new.judge ≡ None =
-    none_then (opening_samples c.args.datum.now) _ _ _ c.if-is_legal.false c.in_ok-is_legal.ensures.standing c.in_ok-is_legal.ensures.legal in
-    if_ok_both _ _ _ c.illegal.result c.illegal.ensures.stands c.illegal.ensures.whole (λ taken stands whole.
-    shown_illegal _ _ _ _ (is_broken taken) whole (stands ∙ none)
-    (stands ∙ opened_none (opening_samples c.args.datum.now) (datum_samples c.args.datum.now) _ _ none c.in_ok-is_legal.ensures.standing))
+    let fell : HasFallen (standing c.open.new.judge) =
+    fell_after (addressed_by c.args.spot c.args.datum.now) _ _ _ c.if-is_legal.false c.in_ok-is_legal.ensures.standing c.in_ok-is_legal.ensures.legal in
+    if_ok_both _ _ _ c.illegal.result c.illegal.ensures.stands c.illegal.ensures.whole (λ taken same whole.
+    shown_illegal _ _ _ _ (is_broken taken) whole (ap stands same ∙ fell)
+    (same ∙ first_fallen (addressed_by c.args.spot c.args.datum.now) (samples_taken c.args.spot (datum_samples c.args.datum.now)) _ _ fell
+    c.in_ok-is_legal.ensures.standing))

@@ -1,12 +1,14 @@
-use Rattle.std.proofs.Common.{refl}
-use Rattle.vme_judge.specs.Runs.{run_so_far}
+use Rattle.std.proofs.Common.{ℕ, Some, refl, subst}
+use Rattle.vme_judge.specs.Runs.{TakesLine, run_so_far}
 use Rattle.vme_judge.proofs.Runs.{ended_refused, ended_taken}
 use Rattle.vme_judge.proofs.run.Run.end_log.Goals as goal
 
 pub returns-in_ok-take_entry-in-Ok-clause-judges : goal.returns-in_ok-take_entry-in-Ok-clause-judges
 unfolding run_so_far
 returns-in_ok-take_entry-in-Ok-clause-judges c =
-    ended_taken c.args.self.now c.args.self.now c.take_entry.new.self _ refl c.in_ok-take_entry-in-Ok.ensures.line c.in-Ok.ensures.says
+    let P : ℕ → Type 0 = λ n. TakesLine c.args.self.now c.take_entry.new.self n (Some c.in-Ok.entry) in
+    ended_taken c.args.self.now c.args.self.now c.take_entry.new.self _ refl
+    (subst P c.number-line.ensures c.in_ok-take_entry-in-Ok.ensures.line) c.in-Ok.ensures.says
 
 pub returns-in-Err-clause-judges : goal.returns-in-Err-clause-judges
 returns-in-Err-clause-judges c =

@@ -1,6 +1,6 @@
-use Rattle.std.proofs.Common.{refl, ap}
+use Rattle.std.proofs.Common.{ℕ, Some, refl, ap, subst}
 use Rattle.vme_bus_log.specs.Texts.{Reading}
-use Rattle.vme_judge.specs.Runs.{run_so_far}
+use Rattle.vme_judge.specs.Runs.{TakesLine, run_so_far}
 use Rattle.vme_judge.proofs.Logs.{if_ok_both}
 use Rattle.vme_judge.proofs.Runs.{line_pushed, line_refused, is_over_rejected}
 use Rattle.vme_judge.proofs.Blanks.{line_skipped, blanks_refused}
@@ -10,8 +10,9 @@ pub returns-in-Ok-clause-judges : goal.returns-in-Ok-clause-judges
 unfolding run_so_far
 returns-in-Ok-clause-judges c =
     if_ok_both _ _ _ c.take_entry.result c.take_entry.ensures.line c.take_entry.ensures.log (λ goes taken log.
-    line_pushed c.args.self.now c.args.self.now c.take_entry.new.self c.end_with.new.self c.args.line.now _ refl taken log
-    c.in-Ok.ensures.ends (ap (λ (r : Reading). r.line) c.in-Ok.ensures.next))
+    let P : ℕ → Type 0 = λ n. TakesLine c.args.self.now c.take_entry.new.self n (Some c.in-Ok.entry) in
+    line_pushed c.args.self.now c.args.self.now c.take_entry.new.self c.end_with.new.self c.args.line.now _ refl
+    (subst P c.number-number.ensures taken) log c.in-Ok.ensures.ends c.in-Ok.ensures.next)
 
 pub returns-in-Err-clause-judges : goal.returns-in-Err-clause-judges
 returns-in-Err-clause-judges c =

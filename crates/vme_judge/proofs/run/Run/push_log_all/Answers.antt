@@ -8,7 +8,7 @@ use Rattle.vme_judge.proofs.run.Run.push_log_all.Goals as goal
 pub loop-line-init : goal.loop-line-init
 loop-line-init c = record {
   judges = λ rest. inl refl;
-  stays = λ none. none;
+  stays = λ found fell. fell;
   once = λ once going. (once, going);
   kind = refl;
   vcd = refl;
@@ -22,7 +22,7 @@ loop-line-preserved c =
       judges =
           leaves_after c.args.self.now c.loop-line.self c.push_line.new.self c.args.bytes.now c.loop-line.rest.now c.in-Some.line.now
           c.in-Some.after.now c.loop-line.invariant.judges c.in-Some.ensures.parts c.in_ok-goes_on.ensures.judges c.in_ok-goes_on.ensures.stays;
-      stays = λ none. c.in_ok-goes_on.ensures.stays (c.loop-line.invariant.stays none);
+      stays = λ found fell. c.in_ok-goes_on.ensures.stays found (c.loop-line.invariant.stays found fell);
       once = λ once going.
           let had = c.loop-line.invariant.once once going in
           let has = c.in_ok-goes_on.ensures.once had.0 had.1 in
@@ -61,4 +61,4 @@ pub returns-clause-judges : goal.returns-clause-judges
 unfolding run_so_far
 returns-clause-judges c =
     judges_kept c.args.self.now c.loop-line.self (record c.loop-line.self { log = c.keep_all.new.self }) c.keep_all.new.self c.args.bytes.now
-    c.loop-line.rest.now c.loop-line.invariant.judges refl refl refl c.keep_all.ensures.begin
+    c.loop-line.rest.now c.loop-line.invariant.judges refl refl refl c.keep_all.ensures.begin c.keep_all.ensures.number

@@ -1,4 +1,4 @@
-use Rattle.vme_judge.proofs.DumpRuns.{last_stopped, last_taken}
+use Rattle.vme_judge.proofs.DumpRuns.{last_only, last_stopped, last_taken}
 use Rattle.vme_judge.proofs.run.Run.take_last.Goals as goal
 
 pub returns-then-not-goes_on : goal.returns-then-not-goes_on
@@ -11,3 +11,8 @@ returns c = λ samples last.
     last_taken c.args.self.now c.take_shown.new.self c.take_shown-2.new.self c.last_sample.new.self c.args.step c.last_sample.result samples
     c.in_ok-goes_on.goes_on c.in_ok-take_shown.field-0 c.in-Sample.is last c.in_ok-goes_on.ensures.sample c.if-not-goes_on.false
     c.last_sample.ensures c.in-Sample-last_sample.is c.in_ok-take_shown.ensures.sample
+
+pub returns-in_default-last_sample : goal.returns-in_default-last_sample
+returns-in_default-last_sample c = λ samples last.
+    last_only c.args.self.now c.take_shown.new.self c.last_sample.new.self c.args.step c.last_sample.result samples c.in_ok-goes_on.goes_on
+    c.in-Sample.is last c.in_ok-goes_on.ensures.sample c.last_sample.ensures c.in_default-last_sample.not-Sample
