@@ -28,7 +28,8 @@ use Rattle.vme_judge.specs.Openings.{opening}
 use Rattle.vme_judge.specs.Runs.{IsGoing, IsOnceRun, form_after, is_no_dump}
 use Rattle.vme_judge.specs.Standing.{Course, Falls, Found, standing, stands}
 use Rattle.vme_judge.specs.Verdicts.{is_log}
-use Rattle.vme_judge.proofs.Blanks.{fresh, going_on, same_dump, whole_on}
+use Rattle.vme_judge.proofs.Blanks.{fresh}
+use Rattle.vme_judge.proofs.DumpBlanks.{going_on, same_dump, whole_on}
 use Rattle.vme_judge.proofs.DumpRuns.{rejected_is}
 use Rattle.vme_judge.proofs.Dumps.{placeless_stands}
 use Rattle.vme_judge.proofs.Pieces.{form_on, log_form}

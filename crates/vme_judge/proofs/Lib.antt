@@ -13,5 +13,6 @@ pub mod DumpBytes
 pub mod DumpHeaders
 pub mod BlankLines
 pub mod Blanks
+pub mod DumpBlanks
 pub mod DumpPieces
 pub mod DumpEnds

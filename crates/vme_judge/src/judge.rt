@@ -1,10 +1,9 @@
 //! The judgement of a trace, sample by sample.
 ghost use Rattle.std.specs.Prelude.{◌≡◌, ◌||◌, ◌==◌, not, Some, None, IfOk, IsNone, is_some, is_none};
-ghost use Rattle.std.specs.List.{position};
-ghost use Rattle.vme_judge.specs.Dumps.{breach_taken, passed};
-ghost use Rattle.vme_judge.specs.Logs.{access_judged, access_taken, left_out, unstarted};
+ghost use Rattle.vme_judge.specs.Dumps.{passed};
+ghost use Rattle.vme_judge.specs.Logs.{left_out, unstarted};
 ghost use Rattle.vme_judge.specs.Seen.{closed_at, counts_opened, opened_at, with_data, with_datum};
-ghost use Rattle.vme_judge.specs.Standing.{answer_finding, closed, course_map, course_then, datum_judged, found_by, order_finding, sample_judged, sample_taken, shown_judged, slot_of, standing, stands, state_of, HasFallen, IsStanding, KeepsTask};
+ghost use Rattle.vme_judge.specs.Standing.{answer_finding, closed, course_map, course_then, datum_judged, found_by, order_finding, sample_judged, sample_taken, shown_judged, slot_of, standing, stands, state_of, IsStanding, KeepsTask};
 
 use crate::boards::Board;
 use crate::counts::{Counts, count};
@@ -14,8 +13,8 @@ use crate::options::Options;
 use crate::transfer::{OpenTransfer, driver_of};
 use std::alloc::{AllocError, Global};
 use vme_answers::{Answers, Wrong};
-use vme_bus_log::{LogAccess, print_access, print_datum};
-use vme_protocol::{Datum, Local, Rule, Sample, Scope, Transfer, Watch};
+use vme_bus_log::print_datum;
+use vme_protocol::{Datum, Rule, Sample, Scope, Transfer, Watch};
 
 /// The place of a sample in the trace.
 #[derive(Clone, Copy, Debug)]
@@ -201,7 +200,7 @@ impl Judge<'_> {
     }
 
     /// Keeps the sample at which the trace is illegal.
-    fn find(
+    pub(crate) fn find(
         &mut self,
         spot: Spot,
         broken: Broken,
@@ -335,109 +334,5 @@ impl Judge<'_> {
     {
         let board = self.boards.get(wrong.board?)?;
         Some(board.slot)
-    }
-
-    /// Takes a rule that a local port breaks. Any byte of its board may have changed. After a finding
-    /// nothing is taken.
-    #[tactic(auto, unfolding(crate::specs::Standing::standing, crate::specs::Dumps::breach_taken))]
-    pub(crate) fn port_breaks(&mut self, rule: Rule, slot: u8, spot: Spot)
-        ensures standing { standing self.new ≡ course_then (breach_taken spot slot rule) (standing self.old) }
-        ensures fallen { HasFallen (standing self.new) }
-        ensures task { KeepsTask self.old self.new }
-    {
-        if self.finding.is_some() {
-            return;
-        }
-        self.find(spot, Broken::Port(rule, slot), None, None);
-        self.forget_board(slot);
-    }
-
-    /// Forgets the bytes of the board in a slot.
-    fn forget_board(&mut self, slot: u8)
-        ensures { self.new ≡ record self.old { answers = self.new.answers } }
-    {
-        let boards = self.boards;
-        if let Some(answers) = self.answers.as_mut() {
-            for (index, board) in boards.iter().enumerate() {
-                if board.slot == slot {
-                    answers.forget(index, 0, board.entry.size);
-                }
-            }
-        }
-    }
-
-    /// Prints the line of an access, if the bus log is printed.
-    fn print_access(&mut self, slot: u8, access: &Local, spot: Spot) -> Result<(), AllocError>
-        ensures { IfOk result (λ _. self.new ≡ record self.old { pending = self.new.pending }) }
-    {
-        if !self.options.log {
-            return Ok(());
-        }
-        let line = LogAccess {
-            time: spot.time,
-            slot,
-            is_write: access.write,
-            offset: access.offset,
-            len: access.len,
-            bytes: access.data,
-        };
-        print_access(&line, &mut self.pending)
-    }
-
-    /// Returns the index of the board in a slot.
-    fn board_in(&self, slot: u8) -> Option<usize>
-        ensures { result ≡ position (λ board. board.slot == slot) self.now.boards.now }
-    {
-        self.boards.iter().position(|board| board.slot == slot)
-    }
-
-    /// Takes an access by the local port in a slot, and returns whether its answer is legal. After a
-    /// finding nothing is taken.
-    ///
-    /// # Errors
-    ///
-    /// An allocation failed.
-    pub(crate) fn access(
-        &mut self,
-        slot: u8,
-        access: &Local,
-        spot: Spot,
-    ) -> Result<bool, AllocError>
-        ensures standing { IfOk result (λ _.
-            standing self.new ≡ course_then (access_taken spot slot access.now) (standing self.old)) }
-        ensures legal { IfOk result (λ legal. IsStanding (standing self.old) → legal ≡ stands (standing self.new)) }
-        ensures task { IfOk result (λ _. KeepsTask self.old self.new) }
-    {
-        if self.finding.is_some() {
-            return Ok(false);
-        }
-        let board = self.board_in(slot);
-        count(&mut self.counts.accesses);
-        self.print_access(slot, access, spot)?;
-        Ok(self.access_at(board, slot, access, spot))
-    }
-
-    /// Takes an access of a board by its index.
-    fn access_at(&mut self, board: Option<usize>, slot: u8, access: &Local, spot: Spot) -> bool
-        ensures task { KeepsTask self.old self.new }
-        ensures legal { IsNone self.old.finding → result ≡ is_none self.new.finding }
-        ensures access { IsNone self.old.finding →
-            found_by self.new.finding (state_of self.new)
-            ≡ access_judged spot slot access.now (state_of self.old) board self.old.answers }
-    {
-        let Some(board) = board else {
-            return true;
-        };
-        let Some(answers) = self.answers.as_mut() else {
-            return true;
-        };
-        let Err(wrong) = answers.take_local(board, access) else {
-            return true;
-        };
-        let end = access.offset.saturating_add(u32::from(access.len));
-        answers.forget(board, access.offset, end);
-        let broken = Broken::Answer(wrong, Asked::Access(*access), Some(slot));
-        self.find(spot, broken, None, None);
-        false
     }
 }

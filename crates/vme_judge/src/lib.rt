@@ -13,6 +13,7 @@ mod fault;
 mod finding;
 mod json;
 mod judge;
+mod local;
 mod log;
 mod message;
 mod opening;

@@ -19,16 +19,6 @@ pub(crate) enum LogBreak {
     Address,
 }
 
-impl LogBreak {
-    /// Returns what a program reports.
-    pub(crate) fn text(self) -> &'static str {
-        match self {
-            LogBreak::Number => "`n=` is neither 0 nor the number of data before it",
-            LogBreak::Address => "`am=` and `a=` are not those of the transfer's first datum",
-        }
-    }
-}
-
 /// What is remembered of a log.
 #[derive(Clone, Copy, Debug)]
 pub(crate) struct LogState {

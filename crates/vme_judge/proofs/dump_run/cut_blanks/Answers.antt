@@ -1,5 +1,5 @@
 use Rattle.std.proofs.Common.{ap, slice_get, sym, ◌∙◌}
-use Rattle.vme_judge.proofs.Blanks.{blanks_more, first_after}
+use Rattle.vme_judge.proofs.DumpBlanks.{blanks_more, first_after}
 use Rattle.vme_judge.proofs.dump_run.cut_blanks.Goals as goal
 
 pub loop-index-preserved : goal.loop-index-preserved

@@ -1,6 +1,6 @@
 use Rattle.std.proofs.Common.{[], get_or}
 use Rattle.vme_vcd_reader.specs.Headers.{beginning}
-use Rattle.vme_judge.proofs.Blanks.{blank_at, reader_on}
+use Rattle.vme_judge.proofs.DumpBlanks.{blank_at, reader_on}
 use Rattle.vme_judge.proofs.run.skip_blanks.Goals as goal
 
 pub loop-byte-preserved : goal.loop-byte-preserved

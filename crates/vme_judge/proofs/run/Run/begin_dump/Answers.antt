@@ -1,7 +1,7 @@
 use Rattle.std.proofs.Common.{[]}
 use Rattle.vme_vcd_reader.specs.Headers.{beginning}
 use Rattle.vme_judge.specs.DumpRuns.{InHeader}
-use Rattle.vme_judge.proofs.Blanks.{dump_barred, dump_begun}
+use Rattle.vme_judge.proofs.DumpBlanks.{dump_barred, dump_begun}
 use Rattle.vme_judge.proofs.run.Run.begin_dump.Goals as goal
 
 pub returns-then-not-branch-clause-first : goal.returns-then-not-branch-clause-first

@@ -1,5 +1,5 @@
 use Rattle.vme_judge.specs.Runs.{run_so_far}
-use Rattle.vme_judge.proofs.Blanks.{blanks_skipped}
+use Rattle.vme_judge.proofs.DumpBlanks.{blanks_skipped}
 use Rattle.vme_judge.proofs.run.Run.push_blanks.Goals as goal
 
 pub returns-clause-judges : goal.returns-clause-judges

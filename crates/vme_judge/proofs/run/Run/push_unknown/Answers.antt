@@ -1,5 +1,5 @@
 use Rattle.vme_judge.specs.Runs.{run_so_far}
-use Rattle.vme_judge.proofs.Blanks.{piece_first, piece_further, so_far_formed}
+use Rattle.vme_judge.proofs.DumpBlanks.{piece_first, piece_further, so_far_formed}
 use Rattle.vme_judge.proofs.Pieces.{takes_first}
 use Rattle.vme_judge.proofs.run.Run.push_unknown.Goals as goal
 

@@ -1,0 +1,238 @@
+-- A run that takes the blanks before a dump.
+use Rattle.std.proofs.Common.{◌≡◌, ℕ, ◌+◌, ◌<◌, Bool, true, false, ◌==◌, zero, suc, inl, List, [], ◌∷◌, ◌++◌, append_assoc, map, drop, take, length, get_or, slice_get, arith, eqb-true, subst, Option, Some, is_some, Result, Ok, Err, IfOk, refl, ap, sym, ◌∙◌}
+use Rattle.std.specs.Prelude.{if◌then◌else◌}
+use Rattle.std.specs.declared.alloc.AllocError.{AllocError}
+use Rattle.std.proofs.lemmas.Bool.{false≢true}
+use Rattle.std.proofs.lemmas.List.{drop_more, take-append-drop, take_more}
+use Rattle.vme_line_map.specs.Variables.{Map}
+use Rattle.vme_vcd_reader.specs.declared.reader.Step.{Step}
+use Rattle.vme_vcd_reader.specs.declared.reader.VcdReader.{VcdReader}
+use Rattle.vme_vcd_reader.specs.Headers.{Outcome, Goes, beginning, blank_read, byte_read}
+use Rattle.vme_vcd_reader.specs.Mapping.{Declaration}
+use Rattle.vme_vcd_reader.specs.Readers.{IsHeader, TakesHeading}
+use Rattle.vme_judge.specs.declared.dump.Ports.{Ports}
+use Rattle.vme_judge.specs.declared.judge.Judge.{Judge}
+use Rattle.vme_judge.specs.declared.options.Options.{Options}
+use Rattle.vme_judge.specs.declared.rejection.Rejection.{Rejection}
+use Rattle.vme_judge.specs.declared.run.Kind.{Kind}
+use Rattle.vme_judge.specs.declared.run.Kind.TheVariants as kinds
+use Rattle.vme_judge.specs.declared.run.Run.{Run}
+use Rattle.vme_judge.specs.Blanks.{AreBlanks, BeginsDump, IsBlankSoFar, ReadsBlanks, SkipsBlanks, TakesBlanks, TakesFirst, TakesFurther, blanks_whole}
+use Rattle.vme_judge.specs.DumpRuns.{InHeader, IsDumpJudgedAs, TakesDump, dump_at, dump_so_far, placeless, text_whole}
+use Rattle.vme_judge.specs.Dumps.{DumpSoFar, Broken}
+use Rattle.vme_judge.specs.DumpTexts.{has_long_blanks, header_judged}
+use Rattle.vme_judge.specs.Runs.{form_after, IsGoing, IsOnceRun}
+use Rattle.vme_judge.specs.Standing.{standing, IsOnce, IsStanding}
+use Rattle.vme_judge.specs.Verdicts.{is_space}
+use Rattle.vme_judge.proofs.BlankLines.{blank_first, blanks_on, dump_blank}
+use Rattle.vme_judge.proofs.DumpRuns.{rejected_is, rejects_once}
+
+-- each of blanks is one
+pub blank_at : (bytes : List ℕ) (i d : ℕ) → AreBlanks bytes → i < length bytes → is_space (get_or bytes i d) ≡ true
+blank_at [] i d are less = absurd (omega arith)
+blank_at (b ∷ bytes) zero d are less = (blank_first b bytes are).0
+blank_at (b ∷ bytes) (suc i) d are less = blank_at bytes i d (blank_first b bytes are).1 (omega arith)
+
+-- a blank before the first word of a dump says nothing
+pub begins_on : (b : ℕ) → is_space b ≡ true → byte_read beginning b ≡ Goes beginning
+begins_on b is = ap (λ test. let r : Outcome = if test then blank_read beginning [] else Goes (record beginning { word = [] ++ b ∷ [] }) in r) (dump_blank b is)
+
+-- a reader of a dump that takes one
+pub reader_on : (map : Map) (b : ℕ) (step : Step) (v : VcdReader) → is_space b ≡ true → TakesHeading map (byte_read beginning b) [] step v
+    → IsHeader map beginning [] v
+reader_on map b step v is takes = (subst (λ out. TakesHeading map out [] step v) (begins_on b is) takes).1
+
+-- blanks before the first word of a header
+header_blanks : (o : Options) (map : Map) (d : DumpSoFar) (ds : List Declaration) (blanks rest : List ℕ) → AreBlanks blanks
+    → header_judged o map d ds (Goes beginning) (blanks ++ rest) ≡ header_judged o map d ds (Goes beginning) rest
+header_blanks o map d ds [] rest are = refl
+header_blanks o map d ds (b ∷ blanks) rest are =
+    let first = blank_first b blanks are in
+    ap (λ out. header_judged o map d ds out (blanks ++ rest)) (begins_on b first.0) ∙ header_blanks o map d ds blanks rest first.1
+
+-- a run that has taken blanks has judged nothing
+pub same_dump : (old new : Run) → new.judge ≡ old.judge → new.ports ≡ old.ports → new.rejection ≡ old.rejection → dump_so_far new ≡ dump_so_far old
+same_dump old new judge ports rejection =
+    ap (λ (r : Option Rejection). dump_at (is_some r) (placeless new.judge) new.ports.last) rejection
+    ∙ ap (λ (j : Judge). dump_at (is_some old.rejection) (placeless j) new.ports.last) judge
+    ∙ ap (λ (p : Ports). dump_at (is_some old.rejection) (placeless old.judge) p.last) ports
+
+-- the whole header does not depend on them
+text_same : (map : Map) (old new : Run) (rest : List ℕ) → new.judge ≡ old.judge → new.ports ≡ old.ports → new.rejection ≡ old.rejection
+    → text_whole map old (InHeader beginning []) rest ≡ text_whole map new (InHeader beginning []) rest
+text_same map old new rest judge ports rejection =
+    sym (
+    ap (λ (j : Judge). header_judged j.options.now map (dump_so_far new) [] (Goes beginning) rest) judge
+    ∙ ap (λ d. header_judged old.judge.options.now map d [] (Goes beginning) rest) (same_dump old new judge ports rejection)
+    )
+
+-- the whole dump after blanks
+pub whole_on : (map : Map) (line : List ℕ) (old new : Run) (bytes rest : List ℕ) (reads : ReadsBlanks line old new bytes) → AreBlanks bytes
+    → new.judge ≡ old.judge → new.ports ≡ old.ports → blanks_whole map line old (bytes ++ rest) ≡ blanks_whole map reads.after new rest
+whole_on map line old new bytes rest reads are judge ports =
+    ap (λ test. let r : DumpSoFar = if test then Broken else text_whole map old (InHeader beginning []) (bytes ++ rest) in r) (reads.lines rest)
+    ∙ ap (λ d. let r : DumpSoFar = if has_long_blanks (length reads.after) rest then Broken else d in r)
+    (header_blanks old.judge.options.now map (dump_so_far old) [] bytes rest are ∙ text_same map old new rest judge ports reads.rejection)
+
+-- the whole dump, if no blank is left
+pub whole_first : (map : Map) (line : List ℕ) (run : Run) (text rest : List ℕ) → slice_get text 0 ≡ Some 36
+    → blanks_whole map line run (text ++ rest) ≡ text_whole map run (InHeader beginning []) (text ++ rest)
+whole_first map line run [] rest first = absurd (cc first)
+whole_first map line run (b ∷ text) rest first =
+    let is : b ≡ 36 = cc first in
+    ap (λ b. let r : DumpSoFar = if has_long_blanks (length line) (b ∷ (text ++ rest)) then Broken
+    else text_whole map run (InHeader beginning []) (b ∷ (text ++ rest)) in r) is
+    ∙ ap (λ b. text_whole map run (InHeader beginning []) (b ∷ (text ++ rest))) (sym is)
+
+module _ (map : Map) (line : List ℕ) (old mid new : Run) (bytes blanks text : List ℕ) where
+  -- a run that takes the first bytes of a dump after blanks: the whole of it
+  whole_then : (skips : TakesBlanks line old mid blanks true) → AreBlanks blanks → slice_get text 0 ≡ Some 36 → bytes ≡ blanks ++ text
+      → (rest : List ℕ) → blanks_whole map line old (bytes ++ rest) ≡ text_whole map mid (InHeader beginning []) (text ++ rest)
+  whole_then skips are first parts rest =
+      let reads = skips.reads refl in
+      ap (λ bytes. blanks_whole map line old (bytes ++ rest)) parts
+      ∙ ap (blanks_whole map line old) (append_assoc blanks text rest)
+      ∙ whole_on map line old mid blanks (text ++ rest) reads are skips.judge skips.ports
+      ∙ whole_first map reads.after mid text rest first
+
+  -- a run that has found nothing before blanks has found nothing after them
+  pub going_on : (skips : TakesBlanks line old mid blanks true) → IsOnceRun old → IsGoing old → IsOnceRun mid × IsGoing mid
+  going_on skips once going =
+      let reads = skips.reads refl in (
+        (subst IsOnce (sym skips.judge) once.0, λ none. reads.rejection ∙ going.1),
+        (subst (λ (j : Judge). IsStanding (standing j)) (sym skips.judge) going.0, reads.rejection ∙ going.1),
+      )
+
+  -- the first bytes of a dump
+  begun : (goes_on : Bool) (skips : TakesBlanks line old mid blanks true) → AreBlanks blanks → slice_get text 0 ≡ Some 36
+      → bytes ≡ blanks ++ text → TakesDump map mid new (InHeader beginning []) text goes_on → BeginsDump map line old new bytes goes_on
+  begun goes_on skips are first parts takes = record {
+    reads = λ on.
+        let reads = takes.reads on in
+        record {
+          after = reads.after;
+          reading = reads.reading;
+          unjudged = λ d was. reads.unjudged d (same_dump old mid skips.judge skips.ports (skips.reads refl).rejection ∙ was);
+          judges = λ rest. whole_then skips are first parts rest ∙ reads.judges rest;
+        };
+    stops = λ off rest.
+        subst (λ d. IsDumpJudgedAs d (dump_so_far new) (placeless new.judge)) (sym (whole_then skips are first parts rest)) (takes.stops off rest);
+    stays = λ found fell. takes.stays found (ap (λ j. placeless j) skips.judge ∙ fell);
+    once = λ once going. let had = going_on skips once going in takes.once had.0 had.1;
+  }
+
+  -- the same by what the calls return
+  pub dump_begun : (on : Bool) (result : Result Bool AllocError) → on ≡ true → TakesBlanks line old mid blanks on → AreBlanks blanks
+      → slice_get text 0 ≡ Some 36 → bytes ≡ blanks ++ text → IfOk result (TakesDump map mid new (InHeader beginning []) text)
+      → IfOk result (BeginsDump map line old new bytes)
+  dump_begun on (Err fault) went skips are first parts takes = tt
+  dump_begun on (Ok goes_on) went skips are first parts takes =
+      begun goes_on (subst (TakesBlanks line old mid blanks) went skips) are first parts takes
+
+-- a run that rejects the blanks before a dump
+pub dump_barred : (map : Map) (line : List ℕ) (old new : Run) (bytes blanks text : List ℕ) (on : Bool) → on ≡ false
+    → TakesBlanks line old new blanks on → bytes ≡ blanks ++ text → BeginsDump map line old new bytes false
+dump_barred map line old new bytes blanks text on off takes parts =
+    let stops = takes.stops off in
+    record {
+      reads = λ on. absurd (false≢true on);
+      stops = λ _ rest. inl (
+          rejected_is new stops.rejected
+          ∙ sym (
+          ap (λ bytes. blanks_whole map line old (bytes ++ rest)) parts
+          ∙ ap (blanks_whole map line old) (append_assoc blanks text rest)
+          ∙ ap (λ test. let r : DumpSoFar = if test then Broken else text_whole map old (InHeader beginning []) (blanks ++ (text ++ rest)) in r)
+          (stops.lines (text ++ rest))
+          )
+          );
+      stays = λ found fell. ap (λ j. placeless j) takes.judge ∙ fell;
+      once = λ once going. (rejects_once old new takes.judge once going, λ on. absurd (false≢true on));
+    }
+
+module _ (map : Map) (line : List ℕ) (old new : Run) (kind : Kind) (bytes : List ℕ) (goes_on : Bool) where
+  -- what is taken of the first bytes does not depend on the form that is remembered
+  pub first_formed : BeginsDump map line (record old { kind = kind }) new bytes goes_on → BeginsDump map line old new bytes goes_on
+  first_formed takes = record {
+    reads = λ on.
+        let reads = takes.reads on in
+        record { after = reads.after; reading = reads.reading; unjudged = reads.unjudged; judges = reads.judges };
+    stops = takes.stops;
+    stays = takes.stays;
+    once = takes.once;
+  }
+
+  -- nor what is taken of blanks
+  pub skips_formed : SkipsBlanks map line (record old { kind = kind }) new bytes goes_on → SkipsBlanks map line old new bytes goes_on
+  skips_formed skips = record {
+    reader = skips.reader;
+    takes = record {
+      judge = skips.takes.judge;
+      ports = skips.takes.ports;
+      reads = λ on.
+          let reads = skips.takes.reads on in
+          record { rejection = reads.rejection; after = reads.after; begin = reads.begin; lines = reads.lines };
+      stops = skips.takes.stops;
+    };
+  }
+
+-- a run that is before the first byte that is no blank is, whatever form is remembered
+pub so_far_formed : (map : Map) (line : List ℕ) (run : Run) (kind : Kind) → IsBlankSoFar map line run
+    → IsBlankSoFar map line (record run { kind = kind })
+so_far_formed map line run kind is = record { reader = is.reader; begin = is.begin }
+
+-- bytes of a dump whose form is known now
+pub piece_first : (map : Map) (line : List ℕ) (old new : Run) (bytes : List ℕ) (kind : Kind) (result : Result Bool AllocError)
+    → IfOk result (BeginsDump map line (record old { kind = kind }) new bytes) → IfOk result (λ _. new.kind ≡ kind) → kind ≡ kinds.Dump
+    → IfOk result (TakesFirst map line old new bytes)
+piece_first map line old new bytes kind (Err fault) takes stays is = tt
+piece_first map line old new bytes kind (Ok goes_on) takes stays is = (stays ∙ is, first_formed map line old new kind bytes goes_on takes)
+
+-- further blanks
+pub piece_further : (map : Map) (line : List ℕ) (old new : Run) (bytes : List ℕ) (kind : Kind) (result : Result Bool AllocError)
+    → IfOk result (SkipsBlanks map line (record old { kind = kind }) new bytes) → IfOk result (λ _. new.kind ≡ kind) → kind ≡ kinds.Unknown
+    → IfOk result (TakesFurther map line old new bytes)
+piece_further map line old new bytes kind (Err fault) takes stays is = tt
+piece_further map line old new bytes kind (Ok goes_on) takes stays is = (stays ∙ is, skips_formed map line old new kind bytes goes_on takes)
+
+-- a run that has taken blanks, whose reader of a dump has taken them before
+pub blanks_skipped : (map : Map) (line : List ℕ) (old new : Run) (v : VcdReader) (bytes : List ℕ) (result : Result Bool AllocError)
+    → IsHeader map beginning [] v → IfOk result (λ _. new.vcd ≡ v) → IfOk result (TakesBlanks line (record old { vcd = v }) new bytes)
+    → IfOk result (SkipsBlanks map line old new bytes)
+blanks_skipped map line old new v bytes (Err fault) reader same takes = tt
+blanks_skipped map line old new v bytes (Ok goes_on) reader same takes = record {
+  reader = subst (IsHeader map beginning []) (sym same) reader;
+  takes = record {
+    judge = takes.judge;
+    ports = takes.ports;
+    reads = λ on.
+        let reads = takes.reads on in
+        record { rejection = reads.rejection; after = reads.after; begin = reads.begin; lines = reads.lines };
+    stops = takes.stops;
+  };
+}
+
+-- one more blank
+pub blanks_more : (bytes : List ℕ) (i d : ℕ) → i < length bytes → AreBlanks (take i bytes) → is_space (get_or bytes i d) ≡ true
+    → AreBlanks (take (i + 1) bytes)
+blanks_more bytes i d less are is =
+    let one : AreBlanks (get_or bytes i d ∷ []) = rw is refl in
+    subst AreBlanks (sym (take_more bytes i d less)) (blanks_on (take i bytes) (get_or bytes i d ∷ []) are ∙ one)
+
+-- a text of a dump that begins with no blank begins with $
+dollar_by : (blank : Bool) (b : ℕ) (kind : Kind) (dollar : Bool) → (b == 36) ≡ dollar → blank ≡ false
+    → (let r : Kind = if blank then kind else (if dollar then kinds.Dump else kinds.Log) in r) ≡ kinds.Dump → b ≡ 36
+dollar_by true b kind dollar is other form = absurd (false≢true (sym other))
+dollar_by false b kind true is other form = eqb-true b 36 is
+dollar_by false b kind false is other form = absurd (cc form)
+
+-- the first byte of a dump that is no blank is $
+pub first_after : (bytes : List ℕ) (i d : ℕ) → i < length bytes → AreBlanks (take i bytes) → is_space (get_or bytes i d) ≡ false
+    → form_after kinds.Unknown bytes ≡ kinds.Dump → slice_get (drop i bytes) 0 ≡ Some 36
+first_after bytes i d less are other form =
+    let left : form_after kinds.Unknown (get_or bytes i d ∷ drop (i + 1) bytes) ≡ kinds.Dump =
+    ap (form_after kinds.Unknown) (sym (drop_more bytes i d less))
+    ∙ sym (blanks_on (take i bytes) (drop i bytes) are)
+    ∙ ap (form_after kinds.Unknown) (take-append-drop i bytes) ∙ form in
+    let is : get_or bytes i d ≡ 36 =
+    dollar_by (is_space (get_or bytes i d)) (get_or bytes i d) (form_after kinds.Unknown (drop (i + 1) bytes)) (get_or bytes i d == 36) refl other left in
+    ap (λ text. slice_get text 0) (drop_more bytes i d less) ∙ ap Some is
