@@ -145,25 +145,31 @@ second_cycle count first now ds1 ds0 one two three four five = rw (one, two, thr
 abbrev strobes_with : Bool → Bool → Bool → Bool → Strobes
 strobes_with ds1 ds0 a01 lword = record { ds1 = ds1; ds0 = ds0; a01 = a01; lword = lword }
 
--- the write half may come
-pub half_comes : (t : cycles.Transfer) (u : Transfer) (s : Sample) → is_block t.am.kind ≡ false → HasStrobes t 0 s → s.write ≡ false → IsHalved t u
-    → breaks_transfer u s ≡ false
-unfolding breaks_transfer place_in
-half_comes t u s alone strobes low halved =
-    let l = own_location t 0 in
-    let row = row_of l in
-    let begun = halved.begun in
-    let single : u.block ≡ false = begun.block ∙ alone in
-    let a01 : a01_at u ≡ row.strobes.a01 = ap (λ (b : Bool). if b && nat_lt 0 u.count then nat_le 2 (u.next % 4) else u.a01) single ∙ begun.a01 in
-    let at : location_in u s ≡ Some l
-    = ap (λ (x : Bool). location_sensed (strobes_with x s.ds0 (a01_at u) u.lword)) strobes.ds1
-    ∙ ap (λ (x : Bool). location_sensed (strobes_with row.strobes.ds1 x (a01_at u) u.lword)) strobes.ds0
-    ∙ ap (λ (x : Bool). location_sensed (strobes_with row.strobes.ds1 row.strobes.ds0 x u.lword)) a01
-    ∙ ap (λ (x : Bool). location_sensed (strobes_with row.strobes.ds1 row.strobes.ds0 row.strobes.a01 x)) begun.lword
-    ∙ own_sensed l in
-    let place : Place = record { location = l; addr = places.addr_of u l; len = places.len_of u l } in
-    let fits : misfits u place s ≡ false
-    = ap (λ (b : Bool). if b then misfits_block u place s else misfits_cycle u s) single
-    ∙ second_cycle u.count u.write s.write (beq s.ds1 u.ds1) (beq s.ds0 u.ds0) halved.count halved.write low
-    (beq_self s.ds1 u.ds1 (strobes.ds1 ∙ sym halved.ds1)) (beq_self s.ds0 u.ds0 (strobes.ds0 ∙ sym halved.ds0)) in
-    ap (λ (found : Option Location). breaks_at u s (place_at u found)) at ∙ ap (λ (b : Bool). b || misfits u place s) begun.whole ∙ fits
+module _ (t : cycles.Transfer) (u : Transfer) (s : Sample) (alone : is_block t.am.kind ≡ false) (strobes : HasStrobes t 0 s) (halved : IsHalved t u) where
+  -- the transfer is no block
+  single : u.block ≡ false
+  single = halved.begun.block ∙ alone
+
+  -- the write half is at the location of its read half
+  pub half_at : location_in u s ≡ Some (own_location t 0)
+  half_at =
+      let row = row_of (own_location t 0) in
+      let a01 : a01_at u ≡ row.strobes.a01
+      = ap (λ (b : Bool). if b && nat_lt 0 u.count then nat_le 2 (u.next % 4) else u.a01) single ∙ halved.begun.a01 in
+      ap (λ (x : Bool). location_sensed (strobes_with x s.ds0 (a01_at u) u.lword)) strobes.ds1
+      ∙ ap (λ (x : Bool). location_sensed (strobes_with row.strobes.ds1 x (a01_at u) u.lword)) strobes.ds0
+      ∙ ap (λ (x : Bool). location_sensed (strobes_with row.strobes.ds1 row.strobes.ds0 x u.lword)) a01
+      ∙ ap (λ (x : Bool). location_sensed (strobes_with row.strobes.ds1 row.strobes.ds0 row.strobes.a01 x)) halved.begun.lword
+      ∙ own_sensed (own_location t 0)
+
+  -- the write half may come
+  pub half_comes : s.write ≡ false → breaks_transfer u s ≡ false
+  unfolding breaks_transfer place_in
+  half_comes low =
+      let l = own_location t 0 in
+      let place : Place = record { location = l; addr = places.addr_of u l; len = places.len_of u l } in
+      let fits : misfits u place s ≡ false
+      = ap (λ (b : Bool). if b then misfits_block u place s else misfits_cycle u s) single
+      ∙ second_cycle u.count u.write s.write (beq s.ds1 u.ds1) (beq s.ds0 u.ds0) halved.count halved.write low
+      (beq_self s.ds1 u.ds1 (strobes.ds1 ∙ sym halved.ds1)) (beq_self s.ds0 u.ds0 (strobes.ds0 ∙ sym halved.ds0)) in
+      ap (λ (found : Option Location). breaks_at u s (place_at u found)) half_at ∙ ap (λ (b : Bool). b || misfits u place s) halved.begun.whole ∙ fits

@@ -37,7 +37,7 @@ both_of true b h = (refl, h)
 both_of false b h = absurd cc
 
 -- a choice of numbers that are others
-choice_off : (write : Bool) (a b k : ℕ) → nat_eq a k ≡ false → nat_eq b k ≡ false → nat_eq (if write then a else b) k ≡ false
+pub choice_off : (write : Bool) (a b k : ℕ) → nat_eq a k ≡ false → nat_eq b k ≡ false → nat_eq (if write then a else b) k ≡ false
 choice_off true a b k one two = one
 choice_off false a b k one two = two
 
@@ -67,7 +67,7 @@ early_lines t early k begin second released driven =
     record { begin = begin; second = second; driven = rw early driven; released = rw early released; ended = rw early second }
 
 -- an edge at which they stand in a late handshake
-late_lines : (u : Handshake) → u.late ≡ true → (k : ℕ) → nat_eq 0 k ≡ false → nat_eq 10 k ≡ false → nat_eq 17 k ≡ false → nat_eq 19 k ≡ false
+pub late_lines : (u : Handshake) → u.late ≡ true → (k : ℕ) → nat_eq 0 k ≡ false → nat_eq 10 k ≡ false → nat_eq 17 k ≡ false → nat_eq 19 k ≡ false
     → nat_eq (if u.lines.write then 12 else 10) k ≡ false → IsStill u k
 late_lines u late k begin second released ended driven =
     record { begin = begin; second = second; driven = rw late driven; released = rw late released; ended = rw late ended }

@@ -23,7 +23,7 @@ use Rattle.vme_protocol.specs.Places.{place_in, place_of, is_quad, is_placed, di
 use Rattle.vme_legal_traces.proofs.Located.{IsBegun, IsLater, IsNext, level_for, place_for, place_is, later_block, len_is, ends_within, product_next}
 
 -- a datum of a block has one, two or four bytes, or eight with a code of eight-byte data
-abbrev IsLenOf : Bool → ℕ → Type 0
+abbrev pub IsLenOf : Bool → ℕ → Type 0
 IsLenOf wide n =
     ((wide ≡ false) × (n ≡ 1)) ⊎ (((wide ≡ false) × (n ≡ 2)) ⊎ (((wide ≡ false) × (n ≡ 4)) ⊎ ((wide ≡ true) × (n ≡ 8))))
 
@@ -127,13 +127,13 @@ like_first len write unit one two three = rw (one, two, three) refl
 
 module _ (t : cycles.Transfer) (lawful : IsLawfulTransfer t) (block : is_block_request t.request ≡ true) (i : ℕ) (less : i < count_of t.request) where
   -- the length of its data
-  block_len : IsLenOf t.am.wide (datum_len t.request)
+  pub block_len : IsLenOf t.am.wide (datum_len t.request)
   block_len =
       let parts = lawful_parts t lawful in
       len_of_code t.am.wide (is_wide_code (code_of t.request)) (datum_len t.request) parts.wide (block_counted t.request block parts.counted)
 
   -- where each is
-  block_aligned : address_of t.request i % datum_len t.request ≡ 0
+  pub block_aligned : address_of t.request i % datum_len t.request ≡ 0
   block_aligned =
       let parts = lawful_parts t lawful in
       stays_aligned t.am.wide (datum_len t.request) (addr_of t.request) i block_len

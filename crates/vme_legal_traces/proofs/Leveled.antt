@@ -13,11 +13,12 @@ use Rattle.vme_trace.specs.Slots.{has_ended}
 use Rattle.vme_trace.specs.Events.{event_changes}
 use Rattle.vme_trace.specs.Shown.{value_at, value_after_run}
 use Rattle.vme_trace_laws.proofs.lemmas.Waves.{HasNone, HasOne, HasTwo, none_stays, two_parts}
-use Rattle.vme_legal_traces.specs.Samples.{is_high, edge_sample, sample_of}
+use Rattle.vme_legal_traces.specs.Samples.{is_high, is_free, edge_sample, sample_of}
 use Rattle.vme_legal_traces.proofs.Order.{Levels, high_at}
 use Rattle.vme_legal_traces.proofs.Levels.{one_levels, two_levels}
-use Rattle.vme_legal_traces.proofs.Edges.{two_steady}
-use Rattle.vme_legal_traces.proofs.Lines.{KeepsWrite, write_line, half_falls, one_value, two_value, two_begins}
+use Rattle.vme_legal_traces.proofs.Edges.{early_level, late_level, two_steady}
+use Rattle.vme_legal_traces.proofs.Lines.{KeepsWrite, write_line, level_driven, half_falls, one_value, two_value, two_begins}
+use Rattle.vme_legal_traces.proofs.Standing.{two_write_free}
 use Rattle.vme_legal_traces.proofs.Steps.{value_next}
 
 -- a sample shows the strobes of a cycle and its answer
@@ -70,7 +71,7 @@ high_level true = refl
 high_level false = refl
 
 -- an edge that is no edge of the release
-early_edge : (ended : Bool) → not (ended && false) ≡ true
+pub early_edge : (ended : Bool) → not (ended && false) ≡ true
 early_edge true = refl
 early_edge false = refl
 
@@ -138,6 +139,13 @@ module _ (config : Configuration) (events : List Observation) (o : Observation) 
     unfolding sample_of
     level_shown k is = ap is_high is ∙ high_level b
 
+    -- and WRITE* is driven in it
+    level_driven_in : (k : ℕ) → value_at (bus_code 77) (event_changes (length config.boards) (length events + 1) o)
+        (value_after_run (bus_code 77) (length config.boards) events Free) k ≡ level_of b
+        → (edge_sample config events o k).write_undefined ≡ false
+    unfolding sample_of
+    level_driven_in k is = ap is_free is ∙ level_driven b
+
     -- the level at the begin of the event, or before
     chosen_level : (t : Handshake) → HasLevel t
         → (if t.opens then level_of t.lines.write else value_after_run (bus_code 77) (length config.boards) events Free) ≡ level_of b
@@ -148,6 +156,24 @@ module _ (config : Configuration) (events : List Observation) (o : Observation) 
     one_level one early has =
         level_shown 4 (one_value KeepsWrite 77 _ Free write_line (length config.boards) (length events + 1) o one has.still early 4
         (early_edge (has_ended o)) _ ∙ chosen_level one.t has)
+
+    -- WRITE* is driven as the strobes of a single handshake fall
+    pub one_driven : (one : HasOne o) → one.t.late ≡ false → HasLevel one.t → (edge_sample config events o 2).write_undefined ≡ false
+    one_driven one early has =
+        level_driven_in 2 (one_value KeepsWrite 77 _ Free write_line (length config.boards) (length events + 1) o one has.still early 2
+        (early_edge (has_ended o)) _ ∙ chosen_level one.t has)
+
+    -- as those of the first of two fall
+    pub first_driven : (two : HasTwo o) → HasLevel two.t → (edge_sample config events o 2).write_undefined ≡ false
+    first_driven two has =
+        level_driven_in 2 (two_begins KeepsWrite 77 _ Free write_line (length config.boards) (length events + 1) o two has.still 2 (omega arith) _
+        ∙ chosen_level two.t has)
+
+    -- and those of the second, if WRITE* does not fall
+    pub second_driven : (two : HasTwo o) → HasLevel two.t → two.u.falls ≡ false → (edge_sample config events o 11).write_undefined ≡ false
+    second_driven two has still =
+        level_driven_in 11 (two_value KeepsWrite 77 _ Free write_line (length config.boards) (length events + 1) o two has.still still 11
+        (early_edge (has_ended o)) _ ∙ chosen_level two.t has)
 
     -- after an event with one that does not end its transfer
     pub one_wrote : (one : HasOne o) → one.t.late ≡ false → HasLevel one.t → has_ended o ≡ false
@@ -189,7 +215,18 @@ module _ (config : Configuration) (events : List Observation) (o : Observation) 
   falls_at two falls =
       ap is_high (two_parts (bus_code 77) (length config.boards) (length events + 1) o two write_line.line 10 _ ∙ half_falls two.u _ two.late falls)
 
-  -- so it is low at its answer
+  -- and is driven
+  falls_driven : (two : HasTwo o) → two.u.falls ≡ true → (edge_sample config events o 10).write_undefined ≡ false
+  unfolding sample_of value_at
+  falls_driven two falls =
+      ap is_free (two_parts (bus_code 77) (length config.boards) (length events + 1) o two write_line.line 10 _ ∙ half_falls two.u _ two.late falls)
+
+  -- so it is as the strobes fall
+  pub half_driven : (two : HasTwo o) → two.u.falls ≡ true → (edge_sample config events o 11).write_undefined ≡ false
+  half_driven two falls =
+      two_write_free config events o two 10 (early_level two.t two.early 11 refl refl) (late_level two.u two.late 11 refl refl refl) ∙ falls_driven two falls
+
+  -- and it is low at its answer
   pub half_level : (two : HasTwo o) → two.u.falls ≡ true → (edge_sample config events o 13).write ≡ false
   half_level two falls =
       let step = two_steady config events o two in

@@ -36,6 +36,15 @@ mod Opening
 mod Leveled
 mod Answering
 mod Halves
+mod Covered
+mod Defined
+mod Driving
+mod Loaded
+mod Counted
+mod Windows
+mod Carried
+mod Loading
+mod Both
 mod Stages
 mod Comes
 mod Placed

@@ -309,7 +309,7 @@ free_below None = omega arith
 free_below (Some byte) = omega arith
 
 -- those of the data lines
-lanes_below : (lanes : List (Option ℕ)) → free_lanes lanes < 2 ^ 32
+pub lanes_below : (lanes : List (Option ℕ)) → free_lanes lanes < 2 ^ 32
 lanes_below lanes =
     let a = free_below (lane_at lanes 0) in
     let b = free_below (lane_at lanes 1) in
@@ -318,7 +318,7 @@ lanes_below lanes =
     omega (arith, a, b, c, d)
 
 -- a level is driven
-level_driven : (level : Bool) → is_free (level_of level) ≡ false
+pub level_driven : (level : Bool) → is_free (level_of level) ≡ false
 level_driven true = refl
 level_driven false = refl
 

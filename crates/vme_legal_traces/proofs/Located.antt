@@ -78,7 +78,7 @@ same_level (requests.BlockFill am addr n count bytes) i = refl
 same_level (requests.Modify am addr n f) i = refl
 
 -- a location has bytes
-some_bytes : (l : Location) → 1 ≤ (row_of l).len
+pub some_bytes : (l : Location) → 1 ≤ (row_of l).len
 some_bytes Byte0 = omega arith
 some_bytes Byte1 = omega arith
 some_bytes Byte2 = omega arith

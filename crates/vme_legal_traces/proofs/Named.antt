@@ -88,6 +88,12 @@ names_stand am top code lines counted rest s n same counts below whole =
     ∙ low_apart (bit_xor n.rest rest) high.0 (xor_lt 32 n.rest rest n.below below)))
     (apart s.lines_undefined counted (ap (bit_and s.lines_undefined) set ∙ low_apart s.lines_undefined high.0 n.free))
 
+-- the lines of an address that count with its code are driven
+pub names_defined : (am top : ℕ) (s : Sample) → Names am top s → (s.am_undefined ≡ false) × (meet s.lines_undefined (counted_lines s.am) ≡ false)
+names_defined am top s n =
+    let high = counted_high s.am in
+    (n.known, apart s.lines_undefined (counted_lines s.am) (ap (bit_and s.lines_undefined) high.1 ∙ low_apart s.lines_undefined high.0 n.free))
+
 -- a transfer begins with the address of its sample
 pub opened_is_of : (am top : ℕ) (scope : Scope) (s : Sample) → Names am top s → IsOf am top (opened scope s)
 unfolding opened

@@ -19,23 +19,23 @@ use Rattle.vme_legal_traces.proofs.Levels.{levels_of}
 use Rattle.vme_legal_traces.proofs.Simulated.{last_level}
 
 -- whether AS* falls
-abbrev falling : Levels → Levels → Bool
+abbrev pub falling : Levels → Levels → Bool
 falling a b = a.strobe && not b.strobe
 
 -- where a transfer is: 0 if none is known, 1 before the answer of the first handshake, 2 after it, 3 after that of the second
-abbrev begun_at : Bool → ℕ → ℕ
+abbrev pub begun_at : Bool → ℕ → ℕ
 begun_at falls phase = if falls then 1 else phase
 
 -- the same after an answer, if one comes
-abbrev answered_at : Bool → ℕ → ℕ → ℕ
+abbrev pub answered_at : Bool → ℕ → ℕ → ℕ
 answered_at down k phase = if down then (if nat_eq k 4 then 2 else 3) else phase
 
 -- whether AS* falls at edge 1 alone, if a transfer begins
-abbrev falls_well : Bool → Bool → ℕ → Bool
+abbrev pub falls_well : Bool → Bool → ℕ → Bool
 falls_well opens falls k = not falls || (opens && nat_eq k 1)
 
 -- whether the first answer comes at edge 4, if there is a handshake, and a second one, if there are two, at edge 13
-abbrev answers_well : Bool → Bool → Bool → ℕ → ℕ → Bool
+abbrev pub answers_well : Bool → Bool → Bool → ℕ → ℕ → Bool
 answers_well one two down k phase = not down || ((nat_eq k 4 && (one && nat_eq phase 1)) || (nat_eq k 13 && (two && nat_eq phase 2)))
 
 -- whether so many levels do so, and after them AS* is high or the transfer is at its last phase
@@ -47,12 +47,12 @@ phased opens one two final levels phase last k (suc count) =
     && phased opens one two final levels (answered_at (answer_down last (levels k)) k (begun_at (falling last (levels k)) phase)) (levels k) (k + 1) count)
 
 -- two tests that hold
-both_hold : (a b : Bool) → (a && b) ≡ true → (a ≡ true) × (b ≡ true)
+pub both_hold : (a b : Bool) → (a && b) ≡ true → (a ≡ true) × (b ≡ true)
 both_hold true b h = (refl, h)
 both_hold false b h = absurd cc
 
 -- a choice of which the first is false
-or_false : (a b : Bool) → a ≡ false → (a || b) ≡ true → b ≡ true
+pub or_false : (a b : Bool) → a ≡ false → (a || b) ≡ true → b ≡ true
 or_false false b is h = h
 or_false true b is h = absurd cc
 
@@ -69,7 +69,7 @@ module _ (I : ℕ → Transfer → Type 0) (opens one two : Bool) (scope : Scope
     (second : two ≡ true → (t : Transfer) → I 2 t
     → (breaks_transfer t (sample 13) ≡ false) × I 3 (after_answer t (place_of t (sample 13)) (sample 13))) (later : List Sample) where
   -- AS* falls at edge 1
-  begun_is : (w : Watch) (falls : Bool) (k phase : ℕ) → w.scope ≡ scope → I phase w.transfer → falls_well opens falls k ≡ true
+  pub begun_is : (w : Watch) (falls : Bool) (k phase : ℕ) → w.scope ≡ scope → I phase w.transfer → falls_well opens falls k ≡ true
       → I (begun_at falls phase) (if falls then opened w.scope (sample k) else w.transfer)
   begun_is w false k phase scope_is is h = is
   begun_is w true k phase scope_is is h =
@@ -100,7 +100,7 @@ module _ (I : ℕ → Transfer → Type 0) (opens one two : Bool) (scope : Scope
       (second more.0 t (subst (λ (p : ℕ). I p t) (eqb-true phase 2 more.1) is))
 
   -- what holds after a sample
-  answered_is : (t : Transfer) (down : Bool) (k phase : ℕ) → I phase t → answers_well one two down k phase ≡ true
+  pub answered_is : (t : Transfer) (down : Bool) (k phase : ℕ) → I phase t → answers_well one two down k phase ≡ true
       → (down ≡ true → breaks_transfer t (sample k) ≡ false)
       × I (answered_at down k phase) (if down then after_answer t (place_of t (sample k)) (sample k) else t)
   answered_is t false k phase is h = (λ down. absurd (cc down), is)

@@ -1,5 +1,5 @@
 -- The lines of address and data stand at the edges at which nothing drives or releases them.
-use Rattle.std.proofs.Common.{◌≡◌, ℕ, suc, ◌+◌, ◌-◌, ◌*◌, ◌^◌, ◌%◌, ◌==◌, ◌<◌, Bool, true, false, nat_eq, List, ◌++◌, length, refl, ap, ◌∙◌, arith}
+use Rattle.std.proofs.Common.{◌≡◌, ℕ, suc, ◌+◌, ◌-◌, ◌*◌, ◌^◌, ◌%◌, ◌==◌, ◌<◌, if◌then◌else◌, Bool, true, false, nat_eq, List, ◌++◌, length, refl, ap, ◌∙◌, arith}
 use Rattle.vme_script.specs.Configurations.{Configuration}
 use Rattle.vme_trace.specs.declared.observation.Observation.{Observation}
 use Rattle.vme_trace.specs.declared.dump.change.Code.{Code}
@@ -15,7 +15,7 @@ use Rattle.vme_trace.specs.Bus.{is_wide, address_number, drive_edge, upper_numbe
 use Rattle.vme_trace.specs.Events.{event_changes}
 use Rattle.vme_trace.specs.Shown.{is_code, value_after, value_at}
 use Rattle.vme_trace_laws.proofs.lemmas.Waves.{HasOne, HasTwo, other, last_other, own, last_own, silent, after_append, level_line, address_strobe_quiet, address_quiet, address_level_quiet, level_quiet, data_strobe_quiet, data_quiet, answer_quiet, one_parts, two_parts}
-use Rattle.vme_legal_traces.specs.Samples.{is_high, number_of, bit_of, lanes_of, data_number, edge_sample, sample_of, value_shown}
+use Rattle.vme_legal_traces.specs.Samples.{is_high, is_free, free_lanes, number_of, bit_of, lanes_of, data_number, edge_sample, sample_of, value_shown}
 
 -- at an edge a handshake moves no line of address or data
 pub record IsStill (t : Handshake) (k : ℕ) : Type 0 where
@@ -128,7 +128,7 @@ data_own k t v s =
     ∙ (last_other (bus_code 80) 81 k (is_wide t) (edge_of t 7) no_lanes v refl)))
 
 -- D31 to D00 stand
-data_still : (k : ℕ) (t : Handshake) (v : Value) → IsStill t k → value_after (bus_code 80) k (handshake_changes t) v ≡ v
+pub data_still : (k : ℕ) (t : Handshake) (v : Value) → IsStill t k → value_after (bus_code 80) k (handshake_changes t) v ≡ v
 unfolding handshake_changes
 data_still k t v s =
     silent (bus_code 80) k (address_strobe_changes t) _ v (address_strobe_quiet (bus_code 80) k t v refl refl)
@@ -159,6 +159,10 @@ write_zero u v none late =
     ∙ (answer_quiet (bus_code 77) 0 u _ refl refl)))))
     ∙ write_zero_own u v none late
 
+-- the lines that nothing drives, by three values
+abbrev lines_free_by : Value → Value → Value → ℕ
+lines_free_by a l d = ((if is_free a then 0xfffffffe else 0) + (if is_free l then 1 else 0)) * 2 ^ 32 + free_lanes (lanes_of d)
+
 module _ (config : Configuration) (events : List Observation) (o : Observation) where
   -- a line of a cycle that no handshake of the event moves at an edge
   abbrev pub StandsAt : ℕ → ℕ → Type 0
@@ -186,6 +190,11 @@ module _ (config : Configuration) (events : List Observation) (o : Observation) 
   unfolding sample_of value_at
   write_same k stands = ap is_high (stands (value_shown config events o k WriteLine))
 
+  -- and is driven, if it was
+  write_free_same : (k : ℕ) → StandsAt 77 (suc k) → (edge_sample config events o (suc k)).write_undefined ≡ (edge_sample config events o k).write_undefined
+  unfolding sample_of value_at
+  write_free_same k stands = ap is_free (stands (value_shown config events o k WriteLine))
+
   -- the lines of the samples stand
   pub lines_same : (k : ℕ) → StandsAt 75 (suc k) → StandsAt 76 (suc k) → StandsAt 80 (suc k)
       → (edge_sample config events o (suc k)).lines ≡ (edge_sample config events o k).lines
@@ -199,6 +208,18 @@ module _ (config : Configuration) (events : List Observation) (o : Observation) 
       ∙ ap (λ (v : Value). (number_of a + bit_of v) * 2 ^ 32 + data_number (lanes_of (value_shown config events o (suc k) DataLines))) (level l)
       ∙ ap (λ (v : Value). (number_of a + bit_of l) * 2 ^ 32 + data_number (lanes_of v)) (lanes d)
 
+  -- those that nothing drives stand too
+  pub undefined_same : (k : ℕ) → StandsAt 75 (suc k) → StandsAt 76 (suc k) → StandsAt 80 (suc k)
+      → (edge_sample config events o (suc k)).lines_undefined ≡ (edge_sample config events o k).lines_undefined
+  unfolding sample_of value_at
+  undefined_same k address level lanes =
+      let a : Value = value_shown config events o k AddressLines in
+      let l : Value = value_shown config events o k LongWord in
+      let d : Value = value_shown config events o k DataLines in
+      ap (λ (v : Value). lines_free_by v (value_shown config events o (suc k) LongWord) (value_shown config events o (suc k) DataLines)) (address a)
+      ∙ ap (λ (v : Value). lines_free_by a v (value_shown config events o (suc k) DataLines)) (level l)
+      ∙ ap (λ (v : Value). lines_free_by a l v) (lanes d)
+
   -- WRITE* of an event with one handshake
   pub one_write : (one : HasOne o) (k : ℕ) → KeepsLevel one.t (suc k) → (edge_sample config events o (suc k)).write ≡ (edge_sample config events o k).write
   one_write one k still = write_same k (one_stands 77 (omega arith) KeepsLevel write_still one (suc k) still)
@@ -207,6 +228,11 @@ module _ (config : Configuration) (events : List Observation) (o : Observation) 
   pub two_write : (two : HasTwo o) (k : ℕ) → KeepsLevel two.t (suc k) → KeepsLevel two.u (suc k)
       → (edge_sample config events o (suc k)).write ≡ (edge_sample config events o k).write
   two_write two k still still' = write_same k (two_stands 77 (omega arith) KeepsLevel write_still two (suc k) still still')
+
+  -- and whether it is driven
+  pub two_write_free : (two : HasTwo o) (k : ℕ) → KeepsLevel two.t (suc k) → KeepsLevel two.u (suc k)
+      → (edge_sample config events o (suc k)).write_undefined ≡ (edge_sample config events o k).write_undefined
+  two_write_free two k still still' = write_free_same k (two_stands 77 (omega arith) KeepsLevel write_still two (suc k) still still')
 
   -- the lines of an event with one handshake
   pub one_lines : (one : HasOne o) (k : ℕ) → IsStill one.t (suc k) → (edge_sample config events o (suc k)).lines ≡ (edge_sample config events o k).lines
@@ -220,5 +246,21 @@ module _ (config : Configuration) (events : List Observation) (o : Observation) 
       → (edge_sample config events o (suc k)).lines ≡ (edge_sample config events o k).lines
   two_lines two k still still' =
       lines_same k (two_stands 75 (omega arith) IsStill address_still two (suc k) still still')
+      (two_stands 76 (omega arith) IsStill long_word_still two (suc k) still still')
+      (two_stands 80 (omega arith) IsStill data_still two (suc k) still still')
+
+  -- those that nothing drives, of an event with one handshake
+  pub one_undefined : (one : HasOne o) (k : ℕ) → IsStill one.t (suc k)
+      → (edge_sample config events o (suc k)).lines_undefined ≡ (edge_sample config events o k).lines_undefined
+  one_undefined one k still =
+      undefined_same k (one_stands 75 (omega arith) IsStill address_still one (suc k) still)
+      (one_stands 76 (omega arith) IsStill long_word_still one (suc k) still)
+      (one_stands 80 (omega arith) IsStill data_still one (suc k) still)
+
+  -- and of an event with two
+  pub two_undefined : (two : HasTwo o) (k : ℕ) → IsStill two.t (suc k) → IsStill two.u (suc k)
+      → (edge_sample config events o (suc k)).lines_undefined ≡ (edge_sample config events o k).lines_undefined
+  two_undefined two k still still' =
+      undefined_same k (two_stands 75 (omega arith) IsStill address_still two (suc k) still still')
       (two_stands 76 (omega arith) IsStill long_word_still two (suc k) still still')
       (two_stands 80 (omega arith) IsStill data_still two (suc k) still still')

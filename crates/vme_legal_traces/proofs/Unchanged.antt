@@ -94,19 +94,19 @@ two_start false true = refl
 two_start false false = refl
 
 -- a strobe that a handshake has
-has_low : (ds1 ds0 : Bool) → (ds1 ≡ false) ⊎ (ds0 ≡ false) → (not ds1 || not ds0) ≡ true
+pub has_low : (ds1 ds0 : Bool) → (ds1 ≡ false) ⊎ (ds0 ≡ false) → (not ds1 || not ds0) ≡ true
 has_low false ds0 low = refl
 has_low true false low = refl
 has_low true true (inl low) = absurd cc
 has_low true true (inr low) = absurd cc
 
 -- a choice whose condition holds
-chosen : (condition kept : Bool) → condition ≡ true → (if condition then kept else true) ≡ true → kept ≡ true
+pub chosen : (condition kept : Bool) → condition ≡ true → (if condition then kept else true) ≡ true → kept ≡ true
 chosen true kept is h = h
 chosen false kept is h = absurd cc
 
 -- conditions that hold together
-all_true : (a b : Bool) → a ≡ true → b ≡ true → (a && b) ≡ true
+pub all_true : (a b : Bool) → a ≡ true → b ≡ true → (a && b) ≡ true
 all_true true b is h = h
 all_true false b is h = absurd cc
 

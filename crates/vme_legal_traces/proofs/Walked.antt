@@ -1,11 +1,17 @@
 -- The events of a run with the transfer that is open before and after each.
 use Rattle.std.proofs.Common.{◌≡◌, ℕ, ◌+◌, Bool, true, false, ◌||◌, if◌then◌else◌, List, [], ◌∷◌, ◌++◌, length, Option, Some, None, is_some, is_none, refl, ap, sym, subst, ◌∙◌, inl, inr, ◌⊎◌}
 use Rattle.vme_cycle.specs.SignalLines.{SignalLines}
-use Rattle.vme_memory.specs.Steps.{Command}
+use Rattle.std.specs.Prelude.{slice_get}
+use Rattle.vme_cycle.specs.declared.request.Request.{Request}
+use Rattle.vme_cycle.specs.declared.request.Request.TheVariants as requests
+use Rattle.vme_memory.specs.Steps.{Command, answer}
+use Rattle.vme_memory.specs.Data.{datum_command, reply_len, datum_reply_len, has_form}
+use Rattle.vme_memory.proofs.lemmas.Data.{reply_form}
+use Rattle.vme_memory.specs.declared.reply.Reply.TheVariants.{Berr}
 use Rattle.vme_memory.specs.declared.reply.Reply.{Reply}
 use Rattle.vme_core.specs.declared.event.EventReply.{EventReply}
 use Rattle.vme_core.specs.declared.event.EventReply.TheVariants as replies
-use Rattle.vme_core.specs.Calls.{Call, OnBoard}
+use Rattle.vme_core.specs.Calls.{Call, OnBoard, machine_step, board_after}
 use Rattle.vme_core.specs.Runs.{Machine}
 use Rattle.vme_script.specs.Configurations.{Configuration}
 use Rattle.vme_script.specs.Lawful.{IsLawful}
@@ -34,7 +40,7 @@ use Rattle.vme_legal_traces.specs.Samples.{is_high, start_of, sample_of, event_s
 use Rattle.vme_legal_traces.specs.Kept.{keeps_after, keeps, strict_scope}
 use Rattle.vme_legal_traces.proofs.Order.{Levels, resting}
 use Rattle.vme_legal_traces.proofs.Levels.{levels_of}
-use Rattle.vme_legal_traces.proofs.Written.{board_of, none_open, board_replies}
+use Rattle.vme_legal_traces.proofs.Written.{board_of, none_open}
 use Rattle.vme_legal_traces.proofs.Steps.{value_next, regroup}
 
 -- an event without a handshake leaves the open transfer
@@ -59,6 +65,7 @@ pub record IsDatum (config : Configuration) (o : Observation) (going next : Opti
   pub shown : IsDatumShown config datum call
   pub first : first_handshake o.activity o.reply ≡ Some (first_of_datum datum reply)
   pub second : second_handshake o.activity o.reply ≡ second_of_datum datum reply
+  pub formed : has_form (datum_reply_len shown.transfer.request) reply ≡ true
   pub was : going ≡ (if datum.first then None else Some (open_at o.board shown.transfer shown.number))
   pub is : next ≡ (if has_ended o then None else Some (open_at o.board shown.transfer (shown.number + 1)))
 
@@ -76,6 +83,33 @@ after_datum config o going next datum P over goes_on = by_end (has_ended o) refl
     by_end true ended = subst P (sym (datum.is ∙ ap (λ (b : Bool). if b then None else Some one) ended)) over
     by_end false goes =
         let same : next ≡ Some one = datum.is ∙ ap (λ (b : Bool). if b then None else Some one) goes in subst P (sym same) (goes_on goes same)
+
+-- a command to a board has a board's reply, which has the form of the command
+board_forms : (machine after : Machine) (who x : ℕ) (command : Option Command) (reply : EventReply) (call : Call) → call ≡ OnBoard x command
+    → (after, reply) ≡ machine_step machine who call
+    → (r : Reply) × (reply ≡ replies.Board r) × ((one : Command) → command ≡ Some one → has_form (reply_len one) r ≡ true)
+board_forms machine after who x command reply call is step = by_board (slice_get machine.boards x) refl
+  where
+    made : (after, reply) ≡ machine_step machine who (OnBoard x command)
+    made = step ∙ ap (machine_step machine who) is
+
+    by_board : (found : _) → slice_get machine.boards x ≡ found
+        → (r : Reply) × (reply ≡ replies.Board r) × ((one : Command) → command ≡ Some one → has_form (reply_len one) r ≡ true)
+    by_board None found = (Berr, ap (λ (p : Machine × EventReply). p.1) (made ∙ ap (board_after machine who x command) found), λ one same. refl)
+    by_board (Some board) found = (
+      (answer board.object command).0,
+      ap (λ (p : Machine × EventReply). p.1) (made ∙ ap (board_after machine who x command) found),
+      λ one same. ap (λ (c : Option Command). has_form (reply_len one) (answer board.object c).0) same ∙ reply_form board.object one,
+    )
+
+-- the form of the reply to a datum
+datum_form : (request : Request) (i at : ℕ) → reply_len (datum_command request i at) ≡ datum_reply_len request
+datum_form (requests.Read am addr n) i at = refl
+datum_form (requests.Write am addr bytes) i at = refl
+datum_form (requests.BlockRead am addr n count) i at = refl
+datum_form (requests.BlockWrite am addr n bytes) i at = refl
+datum_form (requests.BlockFill am addr n count bytes) i at = refl
+datum_form (requests.Modify am addr n f) i at = refl
 
 -- what an event does to the open transfer
 abbrev pub View : Configuration → Observation → Option OpenTransfer → Option OpenTransfer → Type 0
@@ -99,7 +133,8 @@ module _ (config : Configuration) where
   -- what an event does, by its activity
   view_of : (o : Observation) (going next : Option OpenTransfer) (board : Option ℕ) (call : Call) → board ≡ board_of going
       → ((t : Handshake) → first_handshake o.activity o.reply ≡ Some t → board ≡ (if t.opens then None else Some o.board))
-      → ((x : ℕ) (command : Option Command) → call ≡ OnBoard x command → (r : Reply) × (o.reply ≡ replies.Board r))
+      → ((x : ℕ) (command : Option Command) → call ≡ OnBoard x command
+      → (r : Reply) × (o.reply ≡ replies.Board r) × ((one : Command) → command ≡ Some one → has_form (reply_len one) r ≡ true))
       → (a : Activity) → o.activity ≡ a → (shown : IsTransferShown config a call) → GoesOn config going o.board (has_ended o) a call shown next
       → View config o going next
   view_of o going next board call agrees opening replied Requests is shown goes =
@@ -130,6 +165,7 @@ module _ (config : Configuration) where
         shown = shown;
         first = ap (λ (p : Activity × EventReply). first_handshake p.0 p.1) acts;
         second = ap (λ (p : Activity × EventReply). second_handshake p.0 p.1) acts;
+        formed = ap (λ (wanted : Option ℕ). has_form wanted reply.0) (sym (datum_form shown.transfer.request shown.number _)) ∙ reply.2 _ refl;
         was = goes.0;
         is = goes.1;
       }))
@@ -215,7 +251,7 @@ module _ (config : Configuration) (lawful : IsLawful config) (slots : List ℕ) 
     later_walked machine machine' going board events (o ∷ later) w whole run orderly agrees last_is strobe at =
         let step = run.1 in
         let view = view_of config o going run.2 board step.call agrees orderly.2.opening
-        (λ x command is. board_replies machine run.0 o.board x command o.reply step.call is step.step) o.activity refl step.datum run.3 in
+        (λ x command is. board_forms machine run.0 o.board x command o.reply step.call is step.step) o.activity refl step.datum run.3 in
         let next = strobe_next config events o going run.2 strobe view in
         event events later o going run.2 w whole view last_is strobe next at (run_samples config (events ++ o ∷ []) later)
         (λ w' last at'. later_walked run.0 orderly.0 run.2 (open_after board o) (events ++ o ∷ []) later w' (whole ∙ sym (regroup events later o)) run.4

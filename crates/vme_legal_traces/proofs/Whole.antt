@@ -1,4 +1,4 @@
--- Our own traces are legal, if they keep the rules that are left.
+-- Our own traces are legal: they keep each rule.
 use Rattle.std.proofs.Common.{◌≡◌, ℕ, ◌≤◌, true, false, List, [], ◌∷◌, refl}
 use Rattle.vme_script.specs.Configurations.{Configuration}
 use Rattle.vme_script.specs.Lawful.{IsLawful}
@@ -11,7 +11,7 @@ use Rattle.vme_protocol.specs.declared.verdict.Verdict.TheVariants.{Legal}
 use Rattle.vme_protocol.specs.Watching.{started, watched}
 use Rattle.vme_protocol.specs.Verdicts.{verdict}
 use Rattle.vme_legal_traces.specs.Samples.{trace_samples}
-use Rattle.vme_legal_traces.specs.Kept.{breaks, keeps_after, keeps, strict_scope, HasBoardsInOrder, is_transfer_rule}
+use Rattle.vme_legal_traces.specs.Kept.{breaks, keeps_after, keeps, strict_scope, HasBoardsInOrder}
 use Rattle.vme_legal_traces.proofs.Each.{kept_both, legal}
 use Rattle.vme_legal_traces.proofs.Decided.{control_kept}
 use Rattle.vme_legal_traces.proofs.Coded.{trace_coded}
@@ -32,8 +32,7 @@ module _ (rule : Rule) (never : (w : Watch) (s : Sample) → breaks rule w s ≡
   unbroken scope [] = refl
   unbroken scope (s ∷ samples) = unbroken_after (started scope s) samples
 
-module _ (config : Configuration) (lawful : IsLawful config) (order : HasBoardsInOrder config) (slots : List ℕ) (timeout : ℕ) (most : 10 ≤ timeout)
-    (others : (rule : Rule) → is_transfer_rule rule ≡ true → keeps rule (strict_scope timeout) (trace_samples config slots) ≡ true) where
+module _ (config : Configuration) (lawful : IsLawful config) (order : HasBoardsInOrder config) (slots : List ℕ) (timeout : ℕ) (most : 10 ≤ timeout) where
   -- the scope, and the samples
   abbrev Keeps : Rule → Type 0
   Keeps rule = keeps rule (strict_scope timeout) (trace_samples config slots) ≡ true
@@ -51,11 +50,11 @@ module _ (config : Configuration) (lawful : IsLawful config) (order : HasBoardsI
   each_kept rules.TwoHolders = control_kept config lawful slots timeout rules.TwoHolders refl
   each_kept rules.Grant = trace_granted config lawful order slots timeout
   each_kept rules.Timeout = trace_timely config slots timeout most
-  each_kept rules.Undefined = others rules.Undefined refl
+  each_kept rules.Undefined = trace_placed config lawful slots timeout true
   each_kept rules.CodeUnknown = trace_coded config lawful slots timeout
   each_kept rules.AddressChanges = trace_unmoved config lawful slots timeout
   each_kept rules.DataChange = trace_unchanged config lawful slots timeout
-  each_kept rules.Transfer = trace_placed config lawful slots timeout
+  each_kept rules.Transfer = trace_placed config lawful slots timeout false
   each_kept rules.PortUndefined = unbroken rules.PortUndefined (λ w s. refl) (strict_scope timeout) (trace_samples config slots)
   each_kept rules.BusError = unbroken rules.BusError (λ w s. refl) (strict_scope timeout) (trace_samples config slots)
   each_kept rules.NoBoard = unbroken rules.NoBoard (λ w s. refl) (strict_scope timeout) (trace_samples config slots)

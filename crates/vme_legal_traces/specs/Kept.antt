@@ -72,9 +72,3 @@ is_control_rule rules.TwoAnswers = true
 is_control_rule rules.AnswerRises = true
 is_control_rule rules.TwoHolders = true
 is_control_rule rule = false
-
--- the rules of what a transfer shows, of which no law here states that our own traces keep them: its address and data are
--- defined; J1
-abbrev pub is_transfer_rule : Rule → Bool
-is_transfer_rule rules.Undefined = true
-is_transfer_rule rule = false

@@ -6,11 +6,11 @@ ghost use Rattle.vme_script.specs.Lawful.{IsLawful};
 ghost use Rattle.vme_protocol.specs.declared.sample.Sample.{Sample};
 ghost use Rattle.vme_protocol.specs.declared.scope.Scope.{Scope};
 ghost use Rattle.vme_protocol.specs.declared.rule.Rule.{Rule};
-ghost use Rattle.vme_protocol.specs.declared.rule.Rule.TheVariants.{AddressChanges, CodeUnknown, DataChange, Grant, Timeout, Transfer};
+ghost use Rattle.vme_protocol.specs.declared.rule.Rule.TheVariants.{AddressChanges, CodeUnknown, DataChange, Grant, Timeout, Transfer, Undefined};
 ghost use Rattle.vme_protocol.specs.declared.verdict.Verdict.TheVariants.{Legal};
 ghost use Rattle.vme_protocol.specs.Verdicts.{verdict};
 ghost use Rattle.vme_legal_traces.specs.Samples.{trace_samples};
-ghost use Rattle.vme_legal_traces.specs.Kept.{keeps, strict_scope, is_control_rule, is_transfer_rule, HasBoardsInOrder};
+ghost use Rattle.vme_legal_traces.specs.Kept.{keeps, strict_scope, is_control_rule, HasBoardsInOrder};
 
 /// States that a trace that keeps each rule by itself is legal: the rules are those of the verdict.
 pub fn traces_that_keep_each_rule_are_legal()
@@ -77,14 +77,19 @@ pub fn our_traces_keep_the_rule_of_transfers()
         IsTrue (keeps Transfer (strict_scope timeout) (trace_samples config slots)) }
 {}
 
-/// States what is left of the law that our own traces are legal: the verdict on the trace of any turns of a
-/// lawful configuration, whose boards stand in order of slots, is legal in the strict mode if its samples
-/// keep J1.
-pub fn our_traces_are_legal_if_their_transfers_are()
+/// States that our own traces keep the rule of undefined lines, J1 (IEEE 1014-1987, 2.2): AM, the address lines that count
+/// with the code, and LWORD* are driven as AS* falls, WRITE* as a data strobe falls, the data lines of a write from the
+/// sample before the first strobe falls to the answer, and those of a read that DTACK* answers until a strobe rises.
+pub fn our_traces_keep_the_rule_of_undefined_lines()
+    ensures { (config : Configuration) (slots : List ℕ) (timeout : ℕ) → IsLawful config →
+        IsTrue (keeps Undefined (strict_scope timeout) (trace_samples config slots)) }
+{}
+
+/// States that our own traces are legal: the verdict on the samples of the trace of any turns of a lawful configuration,
+/// whose boards stand in order of slots, is `Legal` in the strict mode with a timeout of ten units of time or more.
+pub fn our_traces_are_legal()
     ensures { (config : Configuration) (slots : List ℕ) (timeout : ℕ) → IsLawful config →
         HasBoardsInOrder config → 10 ≤ timeout →
-        ((rule : Rule) → IsTrue (is_transfer_rule rule) →
-        IsTrue (keeps rule (strict_scope timeout) (trace_samples config slots))) →
         verdict (strict_scope timeout) (trace_samples config slots) ≡ Legal }
 {}
 
