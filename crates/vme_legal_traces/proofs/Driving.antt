@@ -32,7 +32,7 @@ drive_apart true false = refl
 drive_apart false true = refl
 drive_apart false false = refl
 
--- and so does that at which the address is
+-- the edge at which the address is released comes after that at which data are driven
 drive_before : (write late : Bool) → nat_eq (if late then 10 + 9 else 1 + 9)
     (if write then (if late then 10 + 2 else 1 + 2) else (if late then 10 + 0 else 1 + 0)) ≡ false
 drive_before true true = refl
