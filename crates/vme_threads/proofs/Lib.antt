@@ -9,5 +9,7 @@ pub mod ProcessorPasses
 pub mod Lines
 pub mod Runs
 pub mod Once
+pub mod Taken
 pub mod ReadRuns
+pub mod Data
 pub mod ReadLines

@@ -1,5 +1,5 @@
 -- Reads over the bus as lines of a script: the calls of a read's task are those of its line.
-use Rattle.std.proofs.Common.{◌≡◌, ℕ, ◌-◌, ◌*◌, ◌<◌, ◌≤◌, arith, true, false, List, [], ◌∷◌, ◌++◌, length, Bool, Option, Some, None, Result, Ok, Err, refl, ap, sym, subst, ◌∙◌}
+use Rattle.std.proofs.Common.{◌≡◌, ℕ, ◌-◌, ◌<◌, ◌≤◌, arith, true, false, List, [], ◌∷◌, ◌++◌, length, Bool, Some, None, Result, Ok, Err, refl, ap, sym, subst, ◌∙◌}
 use Rattle.std.specs.Prelude.{nat_lt, ◌&&◌}
 use Rattle.std.proofs.lemmas.Bool.{ltb-true, false_from_ne_true}
 use Rattle.arrayvec.specs.ArrayVec.{ArrayVec}
@@ -10,7 +10,7 @@ use Rattle.vme_cycle.specs.Lawful.{Transfer as LawfulRequest, transfer_of}
 use Rattle.vme_decode.specs.declared.entry.Entry.{Entry}
 use Rattle.vme_core.specs.declared.event.EventReply.{EventReply}
 use Rattle.vme_core.specs.Calls.{Call, call_of}
-use Rattle.vme_core.specs.NextSteps.{NextStep, Invokes, Returns, call_in, result_in}
+use Rattle.vme_core.specs.NextSteps.{NextStep, Invokes, Returns, call_in}
 use Rattle.vme_core.specs.Runs.{Transition}
 use Rattle.vme_core.proofs.lemmas.NextSteps.{in_makes}
 use Rattle.vme_master.specs.Jobs.{bus_job, request_expected}
@@ -18,7 +18,6 @@ use Rattle.vme_master.specs.declared.expected.ExpectedReply.TheVariants as expec
 use Rattle.vme_master.specs.declared.job.BusJob.{BusJob}
 use Rattle.vme_master.specs.declared.job.Job.{Job}
 use Rattle.vme_master.specs.declared.job.Job.TheVariants.{Bus}
-use Rattle.vme_master.specs.declared.outcome.Outcome.{Outcome}
 use Rattle.vme_master.specs.declared.phase.Phase.TheVariants.{Requesting}
 use Rattle.vme_master.specs.Tables.{next_of}
 use Rattle.vme_master.specs.Machine.{TaskView, advance, task_given, to_do, end_outcome}
@@ -34,7 +33,7 @@ use Rattle.vme_line_task.specs.declared.task.LineTask.TheVariants.{Running}
 use Rattle.vme_line_task.specs.declared.wait.AwaitTask.{AwaitTask}
 use Rattle.vme_line_task.specs.Attempts.{read_attempts}
 use Rattle.vme_line_task.specs.Scripts.{Attempt, Transferring, Awaiting, slot_at, level_at, transfer_job, request_attempt, line_attempt}
-use Rattle.vme_line_task.specs.Tables.{transferring_next, await_reply, awaiting_next, asks_again, next_wants_retry, next_given, line_next, given_of}
+use Rattle.vme_line_task.specs.Tables.{transferring_next, await_reply, awaiting_next, asks_again, next_wants_retry, next_given, given_of}
 use Rattle.vme_line_task.specs.Machine.{attempts_again, line_fresh, line_started, line_advance, line_to_do, line_after}
 use Rattle.vme_line_task.specs.Traces.{Continues}
 use Rattle.vme_line_task.proofs.lemmas.Lines.{by_the_replies}
@@ -44,7 +43,7 @@ use Rattle.vme_threads.specs.declared.processor_pass.ProcessorPass.{ProcessorPas
 use Rattle.vme_threads.specs.ReadForms.{IsReadOf}
 use Rattle.vme_threads.specs.Reads.{read_task, Takes, RunsTask, phase_ended, read_outcome, IsAwaitInProgress}
 use Rattle.vme_threads.specs.Rans.{IsAnsweredBy}
-use Rattle.vme_threads.proofs.Once.{once_next, called, ended}
+use Rattle.vme_threads.proofs.Once.{once_next, called}
 use Rattle.vme_threads.proofs.ProcessorPasses.{made_none, made_more}
 
 -- a line that continues by some transitions and then by others continues by both

@@ -2,11 +2,10 @@
 use Rattle.std.proofs.Common.{◌≡◌, ℕ, zero, suc, ◌<◌, ◌≤◌, ◌+◌, ◌*◌, ◌%◌, ◌^◌, arith, true, false, List, [], ◌∷◌, ◌++◌, length, Bool, Option, Some, None, Result, Ok, Err, refl, ap, sym, subst, ◌∙◌}
 use Rattle.std.specs.Prelude.{nat_lt, IfOk}
 use Rattle.std.proofs.lemmas.Bool.{lt-ltb, ltb-true, false_from_ne_true}
+use Rattle.std.proofs.lemmas.List.{length-append}
 use Rattle.std.proofs.Math.Nat.{mul-le-mul_left}
-use Rattle.vme_cycle.specs.BlockBuffers.{BufferView}
 use Rattle.vme_cycle.specs.Requests.{count_of}
-use Rattle.vme_memory.specs.declared.command.BoardCmd.{BoardCmd}
-use Rattle.vme_memory.specs.Locals.{command_given}
+use Rattle.vme_memory.specs.declared.reply.Reply.{Reply}
 use Rattle.vme_arbiter.specs.declared.command.ArbCmd.TheVariants.{Ask, Look, Done}
 use Rattle.vme_arbiter.specs.declared.command.ArbReply.{ArbReply}
 use Rattle.vme_arbiter.specs.declared.command.ArbReply.TheVariants as arb_replies
@@ -14,7 +13,7 @@ use Rattle.vme_core.specs.declared.event.Event.{Event}
 use Rattle.vme_core.specs.declared.event.Event.TheVariants as events
 use Rattle.vme_core.specs.declared.event.EventReply.{EventReply}
 use Rattle.vme_core.specs.declared.event.EventReply.TheVariants as replies
-use Rattle.vme_core.specs.Calls.{Call, OnBoard, call_of}
+use Rattle.vme_core.specs.Calls.{call_of}
 use Rattle.vme_core.specs.NextSteps.{call_in}
 use Rattle.vme_core.specs.Runs.{Transition, move}
 use Rattle.vme_master.specs.Jobs.{datum_call, request_expected}
@@ -29,8 +28,9 @@ use Rattle.vme_threads.specs.declared.read.ReadEnd.{ReadEnd}
 use Rattle.vme_threads.specs.declared.take.Taken.{Taken}
 use Rattle.vme_threads.specs.declared.processor_pass.ProcessorPass.{ProcessorPass}
 use Rattle.vme_threads.specs.declared.ports.Ports.{Ports}
-use Rattle.vme_threads.specs.ProcessorPasses.{MatchesPorts, AddsTransitions}
-use Rattle.vme_threads.specs.Reads.{read_task, Takes, RunsTask, phase_asked, phase_read, phase_freed, phase_taken, ReadsDatum}
+use Rattle.vme_threads.specs.ProcessorPasses.{MatchesPorts, AddsTransitions, AddsCall}
+use Rattle.vme_threads.specs.Reads.{read_task, Takes, RunsTask, phase_asked, phase_read, phase_freed, phase_taken, IsTaken}
+use Rattle.vme_threads.proofs.Taken.{taken_behind}
 use Rattle.vme_threads.proofs.ProcessorPasses.{made_none, made_more, fits_after}
 
 -- a task without a further call stays where it is
@@ -135,22 +135,21 @@ pub at_datum : (job : BusJob) (place : ℕ × ℕ) (i : ℕ) → job.place ≡ S
 at_datum job place i is less =
     ap (λ (p : Option (ℕ × ℕ)). datum_phase job p i) is ∙ rw (lt-ltb i (count_of job.transfer.request) less) refl
 
--- one more datum of a read
+-- one more datum of a read, whose bytes come behind those that were read before
 pub reads_more :
-    (job : BusJob) (place : ℕ × ℕ) (i n : ℕ) (cycle : BoardCmd) (d e f : ProcessorPass) (old new : BufferView) (taken : Taken)
+    (job : BusJob) (place : ℕ × ℕ) (i n : ℕ) (reply : Reply) (d e f : ProcessorPass) (before old new : List ℕ) (taken : Taken)
     → job.place ≡ Some place → i < count_of job.transfer.request
     → request_expected job.transfer.request ≡ expected_replies.Read n
-    → OnBoard place.0 (command_given cycle) ≡ datum_call job job.place i
-    → RunsTask (read_task job (phase_at (Bus job) 0) []) (read_task job (phase_at (Bus job) i) old.items) d e
-    → ReadsDatum place.0 cycle n e f old new taken
-    → RunsTask (read_task job (phase_at (Bus job) 0) []) (read_task job (phase_taken job i taken) new.items) d f
-reads_more job place i n cycle d e f old new taken is less expected calls runs one =
+    → RunsTask (read_task job (phase_at (Bus job) 0) []) (read_task job (phase_at (Bus job) i) (before ++ old)) d e
+    → AddsCall (datum_call job job.place i) (replies.Board reply) e f → IsTaken n reply old new taken
+    → RunsTask (read_task job (phase_at (Bus job) 0) []) (read_task job (phase_taken job i taken) (before ++ new)) d f
+reads_more job place i n reply d e f before old new taken is less expected runs one took =
     let at : phase_at (Bus job) i ≡ Transferring i = at_datum job place i is less in
-    runs_more (read_task job (phase_at (Bus job) 0) []) (read_task job (Transferring i) old.items)
-    (read_task job (phase_taken job i taken) new.items) d e f
-    (subst (λ (p : Phase). RunsTask (read_task job (phase_at (Bus job) 0) []) (read_task job p old.items) d e) at runs)
-    (runs_one (read_task job (Transferring i) old.items) (read_task job (phase_taken job i taken) new.items)
-    (events.Board place.0 cycle) (replies.Board one.reply) e f one.made (ap Some (sym calls)) (one.took.task job i expected))
+    runs_more (read_task job (phase_at (Bus job) 0) []) (read_task job (Transferring i) (before ++ old))
+    (read_task job (phase_taken job i taken) (before ++ new)) d e f
+    (subst (λ (p : Phase). RunsTask (read_task job (phase_at (Bus job) 0) []) (read_task job p (before ++ old)) d e) at runs)
+    (runs_one (read_task job (Transferring i) (before ++ old)) (read_task job (phase_taken job i taken) (before ++ new)) one.event
+    (replies.Board reply) e f one.made (ap Some (sym one.calls)) (taken_behind job i n reply before old new taken expected took))
 
 -- the request of the bus, by the phase after the reply
 pub asked :
@@ -207,16 +206,19 @@ room_more n i count before capacity had less all =
 
 -- one more datum of a read, by what became of its reply
 pub reads_on :
-    (job : BusJob) (board offset i n : ℕ) (cycle : BoardCmd) (d e f : ProcessorPass) (old new : BufferView) (taken which : Taken)
+    (job : BusJob) (board offset i n : ℕ) (reply : Reply) (d e f : ProcessorPass) (read before old new : List ℕ)
+    (taken which : Taken)
     → taken ≡ which → job.place ≡ Some (board, offset) → i < count_of job.transfer.request
-    → request_expected job.transfer.request ≡ expected_replies.Read n
-    → OnBoard board (command_given cycle) ≡ datum_call job job.place i
-    → RunsTask (read_task job (phase_at (Bus job) 0) []) (read_task job (phase_at (Bus job) i) old.items) d e
-    → ReadsDatum board cycle n e f old new taken
-    → RunsTask (read_task job (phase_at (Bus job) 0) []) (read_task job (phase_taken job i which) new.items) d f
-reads_on job board offset i n cycle d e f old new taken which same is less expected calls runs one =
-    subst (λ (t : Taken). RunsTask (read_task job (phase_at (Bus job) 0) []) (read_task job (phase_taken job i t) new.items) d f) same
-    (reads_more job (board, offset) i n cycle d e f old new taken is less expected calls runs one)
+    → request_expected job.transfer.request ≡ expected_replies.Read n → before ++ old ≡ read
+    → RunsTask (read_task job (phase_at (Bus job) 0) []) (read_task job (phase_at (Bus job) i) read) d e
+    → AddsCall (datum_call job job.place i) (replies.Board reply) e f → IsTaken n reply old new taken
+    → RunsTask (read_task job (phase_at (Bus job) 0) []) (read_task job (phase_taken job i which) (before ++ new)) d f
+reads_on job board offset i n reply d e f read before old new taken which same is less expected moved runs one took =
+    subst (λ (t : Taken). RunsTask (read_task job (phase_at (Bus job) 0) []) (read_task job (phase_taken job i t) (before ++ new)) d f)
+    same
+    (reads_more job (board, offset) i n reply d e f before old new taken is less expected
+    (subst (λ (l : List ℕ). RunsTask (read_task job (phase_at (Bus job) 0) []) (read_task job (phase_at (Bus job) i) l) d e)
+    (sym moved) runs) one took)
 
 -- a read at its first datum has read no bytes
 pub reads_none :
@@ -229,6 +231,14 @@ reads_none job bytes d empty =
 -- no bytes are no more than those of no data
 pub len_none : (bytes : List ℕ) (n : ℕ) → bytes ≡ [] → length bytes ≤ n * 0
 len_none bytes n empty = subst (λ (b : List ℕ). length b ≤ n * 0) (sym empty) (omega arith)
+
+-- the bytes that were moved, and those of one more datum behind them, are within those of so many data and one more
+pub len_next :
+    (n i : ℕ) (read before old new : List ℕ) → length read ≤ n * i → before ++ old ≡ read → length new ≤ length old + n
+    → length (before ++ new) ≤ n * (i + 1)
+len_next n i read before old new had moved more =
+    let split : n * (i + 1) ≡ n * i + n = grind arith in
+    omega (arith, had, ap length moved, length-append before old, length-append before new, more, split)
 
 -- a read past its last datum, with a board, releases the bus
 pub reads_all :
@@ -243,12 +253,6 @@ reads_all job board offset i bytes d e is all runs =
   where
     past : (i n : ℕ) → i ≡ n → nat_lt i n ≡ false
     past i n same = false_from_ne_true (nat_lt i n) (λ less. let wrong : i < n = ltb-true i n less in omega (arith, wrong, same))
-
--- the bytes of one more datum
-pub len_next : (n i before after : ℕ) → before ≤ n * i → after ≤ before + n → after ≤ n * (i + 1)
-len_next n i before after had more =
-    let split : n * (i + 1) ≡ n * i + n = grind arith in
-    omega (arith, had, more, split)
 
 -- the data of a read that has requested the bus, by how they end
 pub then_read :

@@ -1,14 +1,10 @@
 -- Reads over the bus, from the request of the bus to its release.
 use Rattle.std.specs.Prelude.{ℕ, ◌≡◌, ◌≤◌, ◌+◌, Bool, true, false, List, [], ◌∷◌, length, Option, Some, None}
-use Rattle.vme_cycle.specs.BlockBuffers.{BufferView}
-use Rattle.vme_memory.specs.declared.command.BoardCmd.{BoardCmd}
 use Rattle.vme_memory.specs.declared.reply.Reply.{Reply}
-use Rattle.vme_core.specs.declared.event.Event.TheVariants as events
 use Rattle.vme_core.specs.declared.event.EventReply.{EventReply}
-use Rattle.vme_core.specs.declared.event.EventReply.TheVariants as replies
 use Rattle.vme_core.specs.Calls.{call_of}
 use Rattle.vme_core.specs.NextSteps.{call_in}
-use Rattle.vme_core.specs.Runs.{Transition, move}
+use Rattle.vme_core.specs.Runs.{Transition}
 use Rattle.vme_master.specs.Jobs.{request_expected, error_outcome}
 use Rattle.vme_master.specs.declared.expected.ExpectedReply.TheVariants as expected_replies
 use Rattle.vme_master.specs.declared.outcome.Outcome.{Outcome}
@@ -84,19 +80,11 @@ phase_taken job i takens.Berr = Releasing (Some i)
 phase_taken job i takens.Denied = Denied
 
 -- the reply to a datum of n bytes was taken: the bytes that were read and the phase are those of the task after it
-pub record IsTaken (n : ℕ) (reply : Reply) (old new : BufferView) (taken : Taken) : Type 0 where
+pub record IsTaken (n : ℕ) (reply : Reply) (old new : List ℕ) (taken : Taken) : Type 0 where
   pub task :
       (job : BusJob) (i : ℕ) → request_expected job.transfer.request ≡ expected_replies.Read n
-      → task_replied (read_task job (Transferring i) old.items) i reply ≡ read_task job (phase_taken job i taken) new.items
-  pub len : length new.items ≤ length old.items + n
-  pub capacity : new.capacity ≡ old.capacity
-
--- a processor read a datum of n bytes by a cycle on the board with an index
-pub record ReadsDatum (board : ℕ) (cycle : BoardCmd) (n : ℕ) (before after : ProcessorPass) (old new : BufferView) (taken : Taken) :
-    Type 0 where
-  pub reply : Reply
-  pub made : AddsTransitions (move before.who (events.Board board cycle) (replies.Board reply) ∷ []) before after
-  pub took : IsTaken n reply old new taken
+      → task_replied (read_task job (Transferring i) old) i reply ≡ read_task job (phase_taken job i taken) new
+  pub len : length new ≤ length old + n
 
 -- a read that waits for bytes is in progress, before one of its attempts: a run of its events was made
 pub record IsAwaitInProgress (config : Configuration) (line : Line) (before now : ProcessorPass) (job : BusJob) (want : List ℕ)

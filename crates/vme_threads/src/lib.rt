@@ -11,6 +11,7 @@ mod open;
 mod ports;
 mod processor_pass;
 mod read;
+mod read_data;
 mod report;
 mod run_buffers;
 mod run_read;

@@ -1,10 +1,12 @@
 //! Lawful reads over the bus, and their data as operations on a board's memory.
-ghost use Rattle.std.specs.Prelude.{ℕ, ◌≡◌, ◌<◌, ◌≤◌, ◌*◌, length, Some, IfSome};
+ghost use Rattle.std.specs.Prelude.{ℕ, ◌≡◌, ◌<◌, ◌≤◌, ◌+◌, ◌*◌, ◌^◌, length, Some, IfSome};
+ghost use Rattle.vme_core.specs.Data.{datum_cycle};
+ghost use Rattle.vme_cycle.specs.Lawful.{IsLawfulTransfer};
+ghost use Rattle.vme_cycle.specs.Requests.{addr_of, count_of};
 ghost use Rattle.vme_memory.specs.Locals.{command_given};
 ghost use Rattle.vme_memory.specs.Steps.{read_command};
 ghost use Rattle.vme_threads.specs.ReadForms.{IsReadOf, IsPlaceOf};
 
-use vme_core::DatumCycle;
 use vme_cycle::{Request, Transfer};
 use vme_decode::AddressMap;
 use vme_memory::{Access, ByteMemory, Reply};
@@ -51,15 +53,15 @@ pub(crate) struct BusRead<'a> {
     pub(crate) transfer: Transfer<'a>,
     pub(crate) place: Option<(usize, u32)>,
     pub(crate) form: ReadForm,
+    ghost lawful: { IsLawfulTransfer transfer },
     ghost is: { IsReadOf transfer.request form },
+    ghost end: { addr_of transfer.request + form.n * count_of transfer.request ≤ 2 ^ 32 },
     ghost placed: { (found : ℕ × ℕ) → place ≡ Some found → IsPlaceOf transfer.request found },
 }
 
 impl<'a> BusRead<'a> {
     ghost use Rattle.vme_cycle.specs.BlockBuffers.{block_limit};
-    ghost use Rattle.vme_cycle.specs.Requests.{count_of};
-    ghost use Rattle.vme_core.specs.Calls.{OnBoard};
-    ghost use Rattle.vme_master.specs.Jobs.{bus_job, datum_call};
+    ghost use Rattle.vme_master.specs.Jobs.{bus_job};
     ghost use Rattle.vme_master.specs.declared.job.Job.TheVariants as jobs;
     ghost use Rattle.vme_threads.specs.Reads.{job_of};
 
@@ -79,6 +81,7 @@ impl<'a> BusRead<'a> {
     {
         let place = {
             let plan = transfer.plan();
+            prove!(0 < plan.len());
             map.select_at(plan.am(), plan.addr())
         };
         BusRead {
@@ -97,39 +100,56 @@ impl<'a> BusRead<'a> {
     {
         self.transfer.plan().len()
     }
+}
 
-    /// Returns datum `i`, by the board and the offset of the first datum, and the length of each.
+/// A read on the board that it selects, with the offset of the first datum and the length of each.
+#[derive(Clone, Copy)]
+pub(crate) struct BoardRead<'a> {
+    pub(crate) bus: &'a BusRead<'a>,
+    pub(crate) board: usize,
+    pub(crate) offset: u32,
+    pub(crate) n: u8,
+    ghost place: { bus.now.place ≡ Some (board, offset) },
+    ghost len: { n ≡ bus.now.form.n },
+}
+
+impl<'a> BoardRead<'a> {
+    ghost use Rattle.vme_core.specs.Calls.{OnBoard};
+    ghost use Rattle.vme_master.specs.Jobs.{datum_call};
+    ghost use Rattle.vme_threads.specs.Reads.{job_of};
+
+    /// Returns datum `i`.
     #[inline(always)]
-    pub(crate) fn datum(&self, board: usize, offset: u32, n: u8, i: u16) -> ReadDatum<'_>
-        requires in_count { i < count_of self.now.transfer.request }
-        requires place { self.now.place ≡ Some (board, offset) }
-        requires len { n ≡ self.now.form.n }
-        ensures { OnBoard board (command_given result.cycle) ≡ datum_call (job_of self.now) self.now.place i }
+    pub(crate) fn datum(&self, i: u16) -> ReadDatum<'a>
+        requires in_count { i < count_of self.now.bus.now.transfer.request }
+        ensures { OnBoard self.now.board (command_given (datum_cycle result.transfer.now result.i result.at))
+            ≡ datum_call (job_of self.now.bus.now) self.now.bus.now.place i }
     {
-        let plan = self.transfer.plan();
-        prove!(i < plan.len());
-        let at = offset + u32::from(i) * u32::from(n);
+        let at = self.offset + u32::from(i) * u32::from(self.n);
         ReadDatum {
-            cycle: DatumCycle::new(plan, i, at),
-            block: self.form.block,
+            transfer: &self.bus.transfer,
+            i,
+            block: self.bus.form.block,
             at,
-            n,
+            n: self.n,
         }
     }
 }
 
-/// A datum of a read, as an operation that reads `n` bytes at an offset.
+/// Datum `i` of a read, as an operation that reads `n` bytes at an offset. Its command is the cycle
+/// of the datum, whose signals are not computed.
 #[derive(Drop)]
 pub(crate) struct ReadDatum<'a> {
-    pub(crate) cycle: DatumCycle<'a>,
+    pub(crate) transfer: &'a Transfer<'a>,
+    pub(crate) i: u16,
     pub(crate) block: bool,
     pub(crate) at: u32,
     pub(crate) n: u8,
-    ghost command: { command_given cycle ≡ Some (read_command block at n) },
+    ghost command: { command_given (datum_cycle transfer.now i at) ≡ Some (read_command block at n) },
 }
 
 impl Operation<ByteMemory> for ReadDatum<'_> {
-    ghost command = { λ d. d.cycle };
+    ghost command = { λ d. datum_cycle d.transfer.now d.i d.at };
 
     #[inline(always)]
     fn perform(&self, memory: &mut ByteMemory) -> Reply {

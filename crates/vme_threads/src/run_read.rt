@@ -1,6 +1,6 @@
 //! Reads over the bus, each by one function from the request of the bus to its release: the events
 //! are those of the read's task, without a step of the task for each.
-ghost use Rattle.std.specs.Prelude.{◌≡◌, ◌<◌, ◌≤◌, ◌+◌, ◌*◌, ◌∷◌, [], ℕ, List, length, Some, Ok, IfOk, IfSome};
+ghost use Rattle.std.specs.Prelude.{◌≡◌, ◌<◌, ◌≤◌, ◌*◌, ◌∷◌, [], ℕ, List, length, Some, Ok, IfOk, IfSome};
 ghost use Rattle.vme_cycle.specs.Lawful.{transfer_of};
 ghost use Rattle.vme_cycle.specs.Requests.{count_of};
 ghost use Rattle.vme_core.specs.declared.event.Event.TheVariants as events;
@@ -12,17 +12,15 @@ ghost use Rattle.vme_script.specs.Configurations.{Configuration};
 ghost use Rattle.vme_threads.specs.declared.processor_pass.ProcessorPass.{ProcessorPass as AnyPass};
 ghost use Rattle.vme_line_task.specs.ReadBuffers.{request_read_len};
 ghost use Rattle.vme_master.specs.declared.phase.Phase.TheVariants.{Requesting, Polling, Releasing};
-ghost use Rattle.vme_master.specs.declared.job.Job.TheVariants as jobs;
-ghost use Rattle.vme_master.specs.Machine.{phase_at};
 ghost use Rattle.vme_threads.specs.ProcessorPasses.{MatchesPorts, AddsTransitions};
 ghost use Rattle.vme_threads.specs.Rans.{IsAnsweredBy};
 ghost use Rattle.vme_threads.specs.ReadForms.{IsReadOf};
-ghost use Rattle.vme_threads.specs.Reads.{job_of, read_task, phase_asked, phase_read, phase_freed, phase_ended, ReadsDatum, RunsTask, IsAwaitInProgress};
+ghost use Rattle.vme_threads.specs.Reads.{job_of, read_task, phase_asked, phase_freed, phase_ended, RunsTask, IsAwaitInProgress};
 
 use crate::ports::Ports;
 use crate::processor_pass::ProcessorPass;
-use crate::read::{BusRead, ReadDatum, ReadEnd, ReadForm};
-use crate::take::{Taken, has_to_read_again, outcome_of, reply_of, take};
+use crate::read::{BusRead, ReadEnd, ReadForm};
+use crate::take::{has_to_read_again, outcome_of, reply_of};
 use crossbeam_utils::Backoff;
 use std::sync::Wait;
 use std::sync::atomic::Ordering;
@@ -267,132 +265,5 @@ impl ProcessorPass {
             ArbReply::Waiting => Ok(false),
             ArbReply::Denied => Ok(false),
         }
-    }
-
-    /// Reads all data of a read that has the bus. It returns how they have ended, and appends to
-    /// `bytes` what it read.
-    ///
-    /// # Errors
-    /// `Spent` if the board has made 2^64 - 1 steps, or if the workers of these ports have to stop.
-    #[inline(always)]
-    fn read_data<R: Wait>(
-        &mut self,
-        rt: &R,
-        ports: &Ports,
-        read: &BusRead<'_>,
-        count: u16,
-        bytes: &mut BlockBuffer,
-    ) -> Result<ReadEnd, Spent>
-        requires fits { MatchesPorts ports.now self.old }
-        requires there { IfSome read.now.place (λ place. place.0 < self.old.boards) }
-        requires count { count ≡ count_of read.now.transfer.request }
-        requires none { bytes.old.items ≡ [] }
-        requires capacity { read.now.form.n * count ≤ bytes.old.capacity }
-        ensures runs { IfOk result (λ end.
-            RunsTask (read_task (job_of read.now) (phase_at (jobs.Bus (job_of read.now)) 0) [])
-            (read_task (job_of read.now) (phase_read end) bytes.new.items) self.old self.new) }
-        ensures len { IfOk result (λ _. length bytes.new.items ≤ read.now.form.n * count) }
-    {
-        let (board, offset) = match read.place {
-            Some(place) => place,
-            None => return Ok(ReadEnd::Ended { berr: Some(0) }),
-        };
-        // The lengths are literals: the compiler has a loop for each, with fewer cases.
-        match read.form.n {
-            1 => self.read_each(rt, ports, read, board, offset, 1, count, bytes),
-            4 => self.read_each(rt, ports, read, board, offset, 4, count, bytes),
-            n => self.read_each(rt, ports, read, board, offset, n, count, bytes),
-        }
-    }
-
-    /// Reads all data of a read on its board, each of length `n`, as `read_data` does.
-    ///
-    /// # Errors
-    /// `Spent` if the board has made 2^64 - 1 steps, or if the workers of these ports have to stop.
-    #[inline(always)]
-    fn read_each<R: Wait>(
-        &mut self,
-        rt: &R,
-        ports: &Ports,
-        read: &BusRead<'_>,
-        board: usize,
-        offset: u32,
-        n: u8,
-        count: u16,
-        bytes: &mut BlockBuffer,
-    ) -> Result<ReadEnd, Spent>
-        requires fits { MatchesPorts ports.now self.old }
-        requires place { read.now.place ≡ Some (board, offset) }
-        requires there { board < self.old.boards }
-        requires n { n ≡ read.now.form.n }
-        requires count { count ≡ count_of read.now.transfer.request }
-        requires none { bytes.old.items ≡ [] }
-        requires capacity { n * count ≤ bytes.old.capacity }
-        ensures runs { IfOk result (λ end.
-            RunsTask (read_task (job_of read.now) (phase_at (jobs.Bus (job_of read.now)) 0) [])
-            (read_task (job_of read.now) (phase_read end) bytes.new.items) self.old self.new) }
-        ensures len { IfOk result (λ _. length bytes.new.items ≤ n * count) }
-    {
-        for i in 0..count {
-            if ports.stop.load(Ordering::SeqCst) {
-                return Err(Spent);
-            }
-            let datum = read.datum(board, offset, n, i);
-            match self.read_datum(rt, ports, board, &datum, n, bytes)? {
-                Taken::Bytes => {}
-                Taken::Berr => return Ok(ReadEnd::Ended { berr: Some(i) }),
-                Taken::Denied => return Ok(ReadEnd::Denied),
-            }
-        }
-        Ok(ReadEnd::Ended { berr: None })
-    }
-
-    /// Reads a datum of `n` bytes, and appends its bytes to those that were read.
-    ///
-    /// # Errors
-    /// `Spent` if the board has made 2^64 - 1 steps.
-    #[inline(always)]
-    fn read_datum<R: Wait>(
-        &mut self,
-        rt: &R,
-        ports: &Ports,
-        board: usize,
-        datum: &ReadDatum<'_>,
-        n: u8,
-        bytes: &mut BlockBuffer,
-    ) -> Result<Taken, Spent>
-        requires fits { MatchesPorts ports.now self.old }
-        requires there { board < self.old.boards }
-        requires capacity { length bytes.old.items + n ≤ bytes.old.capacity }
-        ensures read { IfOk result (ReadsDatum board datum.now.cycle n self.old self.new bytes.old bytes.new) }
-    {
-        match self.try_board(ports, board, datum)? {
-            Some(reply) => Ok(take(&reply, n, bytes)),
-            None => self.read_waiting(rt, ports, board, datum, n, bytes),
-        }
-    }
-
-    /// Reads a datum as `read_datum` does, by a call that may wait for the board.
-    ///
-    /// # Errors
-    /// `Spent` if the board has made 2^64 - 1 steps.
-    #[cold]
-    #[inline(never)]
-    fn read_waiting<R: Wait>(
-        &mut self,
-        rt: &R,
-        ports: &Ports,
-        board: usize,
-        datum: &ReadDatum<'_>,
-        n: u8,
-        bytes: &mut BlockBuffer,
-    ) -> Result<Taken, Spent>
-        requires fits { MatchesPorts ports.now self.old }
-        requires there { board < self.old.boards }
-        requires capacity { length bytes.old.items + n ≤ bytes.old.capacity }
-        ensures read { IfOk result (ReadsDatum board datum.now.cycle n self.old self.new bytes.old bytes.new) }
-    {
-        let reply = self.call_board(rt, ports, board, datum)?;
-        Ok(take(&reply, n, bytes))
     }
 }

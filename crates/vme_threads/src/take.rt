@@ -1,10 +1,11 @@
 //! Replies to the data of a read.
 ghost use Rattle.vme_line_task.specs.Tables.{await_reply, asks_again};
-ghost use Rattle.std.specs.Prelude.{◌≡◌, ◌≤◌, ◌+◌, length};
+ghost use Rattle.std.specs.Prelude.{◌≡◌, ◌≤◌, ◌++◌, length};
 ghost use Rattle.vme_cycle.specs.BlockBuffers.{block_limit};
 ghost use Rattle.vme_threads.specs.Reads.{IsTaken, read_outcome};
 
 use crate::read::ReadEnd;
+use arrayvec::ArrayVec;
 use vme_cycle::BlockBuffer;
 use vme_master::Outcome;
 use vme_memory::Reply;
@@ -21,11 +22,17 @@ pub(crate) enum Taken {
     Denied,
 }
 
-/// Appends the bytes of a board's reply to a datum of `n` bytes to those that were read.
+/// The bytes of data that were read since the last of them went to the bytes of their block.
+pub(crate) type Gathered = ArrayVec<u8, 64>;
+
+/// With at most so many gathered bytes another datum fits behind them.
+const MOST_BEFORE: usize = 56;
+
+/// Appends the bytes of a board's reply to a datum of `n` bytes to those that were gathered.
 #[inline(always)]
-pub(crate) fn take(reply: &Reply, n: u8, bytes: &mut BlockBuffer) -> Taken
-    requires { length bytes.old.items + n ≤ bytes.old.capacity }
-    ensures { IsTaken n reply.now bytes.old bytes.new result }
+pub(crate) fn take(reply: &Reply, n: u8, gathered: &mut Gathered) -> Taken
+    requires { length gathered.old.items ≤ 56 }
+    ensures { IsTaken n reply.now gathered.old.items gathered.new.items result }
 {
     let datum = match reply {
         Reply::Bytes(datum) => datum.as_slice(),
@@ -34,12 +41,29 @@ pub(crate) fn take(reply: &Reply, n: u8, bytes: &mut BlockBuffer) -> Taken
     };
     // Short literals are copied in place.
     match (n, datum) {
-        (1, [a]) => bytes.extend_from_slice(&[*a]),
-        (4, [a, b, c, d]) => bytes.extend_from_slice(&[*a, *b, *c, *d]),
-        (_, datum) if datum.len() == usize::from(n) => bytes.extend_from_slice(datum),
+        (1, [a]) => gathered.push(*a),
+        (4, [a, b, c, d]) => gathered.try_extend_from_slice(&[*a, *b, *c, *d]).unwrap(),
+        (_, datum) if datum.len() == usize::from(n) => {
+            gathered.try_extend_from_slice(datum).unwrap()
+        }
         _ => return Taken::Denied,
     }
     Taken::Bytes
+}
+
+/// Appends the gathered bytes to those of their block, unless another datum fits behind them.
+#[inline(always)]
+pub(crate) fn make_room(gathered: &mut Gathered, bytes: &mut BlockBuffer)
+    requires { length (bytes.old.items ++ gathered.old.items) ≤ bytes.old.capacity }
+    ensures bytes { bytes.new.items ++ gathered.new.items ≡ bytes.old.items ++ gathered.old.items }
+    ensures capacity { bytes.new.capacity ≡ bytes.old.capacity }
+    ensures fits { length gathered.new.items ≤ 56 }
+{
+    if gathered.len() <= MOST_BEFORE {
+        return;
+    }
+    bytes.extend_from_slice(gathered.as_slice());
+    gathered.clear();
 }
 
 /// Returns the outcome of a read that has ended, with the bytes that were read.

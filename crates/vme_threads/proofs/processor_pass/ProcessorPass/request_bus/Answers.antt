@@ -1,7 +1,7 @@
-use Rattle.std.proofs.Common.{[], ap, true, false}
+use Rattle.std.proofs.Common.{[], ap, true}
 use Rattle.vme_master.specs.declared.job.Job.TheVariants.{Bus}
 use Rattle.vme_master.specs.declared.phase.Phase.TheVariants.{Requesting, Polling, Denied}
-use Rattle.vme_master.specs.Machine.{phase_answered, phase_at}
+use Rattle.vme_master.specs.Machine.{phase_answered}
 use Rattle.vme_threads.specs.Reads.{job_of, read_task, phase_asked}
 use Rattle.vme_threads.proofs.ReadRuns.{runs_fit, asked, then_polled}
 use Rattle.vme_threads.proofs.processor_pass.ProcessorPass.request_bus.Goals as goal

@@ -1,4 +1,4 @@
-use Rattle.std.proofs.Common.{List, ℕ, [], length, map, ap, sym, subst, ◌∙◌, ◌≡◌, Ok, Err, false, ◌<◌, ◌≤◌, arith}
+use Rattle.std.proofs.Common.{List, ℕ, length, map, ap, sym, subst, ◌∙◌, false, ◌<◌}
 use Rattle.std.specs.Prelude.{IfSome}
 use Rattle.std.proofs.lemmas.Option.{get_or_from_slice_get}
 use Rattle.std.proofs.lemmas.List.{length-map}

@@ -1,4 +1,4 @@
-use Rattle.std.proofs.Common.{[], ap, sym, subst, true, false}
+use Rattle.std.proofs.Common.{[], true, false}
 use Rattle.vme_master.specs.declared.phase.Phase.TheVariants.{Requesting, Releasing}
 use Rattle.vme_threads.specs.declared.read.ReadEnd.TheVariants as ends
 use Rattle.vme_threads.specs.Reads.{job_of, read_task, phase_asked}

@@ -1,5 +1,4 @@
-use Rattle.std.proofs.Common.{[], ap, sym, subst, true, false, refl, ◌∙◌, ◌<◌, ◌≤◌, ◌≡◌, arith}
-use Rattle.std.specs.Prelude.{nat_lt, ◌&&◌}
+use Rattle.std.proofs.Common.{[], ap, sym, false, refl, ◌∙◌, ◌≡◌, arith}
 use Rattle.std.proofs.lemmas.Bool.{lt-ltb}
 use Rattle.vme_master.specs.declared.phase.Phase.TheVariants.{Requesting}
 use Rattle.vme_line_task.specs.Tables.{asks_again}

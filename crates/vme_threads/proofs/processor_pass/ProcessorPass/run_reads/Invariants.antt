@@ -1,4 +1,4 @@
-use Rattle.std.proofs.Common.{ℕ, ◌≡◌}
+use Rattle.std.proofs.Common.{◌≡◌}
 use Rattle.vme_grammar.specs.declared.line.Line.{Line}
 use Rattle.vme_script.specs.Configurations.{Configuration}
 use Rattle.vme_threads.specs.declared.processor_pass.ProcessorPass.{ProcessorPass}
