@@ -1,12 +1,13 @@
 -- The end of a body.
 use Rattle.std.proofs.Common.{◌≡◌, ◌≢◌, ℕ, Bool, true, false, ◌==◌, List, [], ◌∷◌, Option, Some, None, refl, ap, sym, subst, ◌∙◌, nat_lt}
 use Rattle.std.specs.Prelude.{if◌then◌else◌}
+use Rattle.std.specs.Option.{option_map}
 use Rattle.vme_vcd_reader.specs.declared.bus.BusLines.{BusLines}
 use Rattle.vme_vcd_reader.specs.declared.reader.Step.{Step}
 use Rattle.vme_vcd_reader.specs.declared.reader.Step.TheVariants as steps
 use Rattle.vme_vcd_reader.specs.declared.reader.VcdReader.{VcdReader}
 use Rattle.vme_vcd_reader.specs.declared.table.Row.{Row}
-use Rattle.vme_vcd_reader.specs.Bodies.{Reading, Shown, Sample, End, Broken, at_word, before, ends_with, fact_taken, last_of, shown_at, time_taken}
+use Rattle.vme_vcd_reader.specs.Bodies.{Moment, Reading, Shown, Sample, End, Broken, after_byte, at_word, before, ends_with, fact_taken, last_of, said_at, shown_at, time_taken}
 use Rattle.vme_vcd_reader.specs.Places.{IsAt, may_end}
 use Rattle.vme_vcd_reader.specs.Ports.{without_changes}
 use Rattle.vme_vcd_reader.specs.Readers.{IsReading, ReportsLast, TakesRead, samples_left}
@@ -18,15 +19,15 @@ abbrev pub IsClear : Option (Reading × Option Shown) → Type 0
 IsClear None = Unit {0}
 IsClear (Some taken) = taken.0.word ≡ []
 
-time_clear : (r : Reading) (last : Option ℕ) (time : ℕ) → r.word ≡ [] → IsClear (time_taken r last time)
+time_clear : (r : Reading) (last : Option Moment) (time : ℕ) → r.word ≡ [] → IsClear (time_taken r last time)
 time_clear r None time clear = clear
 time_clear r (Some last) time clear =
-    elim (nat_lt time last) as (λ less. IsClear (if less then None else
-    (if time == last then Some (r, None) else Some (record r { time = Some time; lines = without_changes r.lines; changed = false }, Some (shown_at r last))))) [
+    elim (nat_lt time last.time) as (λ less. IsClear (if less then None else
+    (if time == last.time then Some (r, None) else Some (record r { time = said_at r time; lines = without_changes r.lines; changed = false }, Some (shown_at r last))))) [
       | true ↦ tt
-      | false ↦ elim (time == last) as (λ same. IsClear
+      | false ↦ elim (time == last.time) as (λ same. IsClear
           (if same then Some (r, None) else Some (
-            record r { time = Some time; lines = without_changes r.lines; changed = false },
+            record r { time = said_at r time; lines = without_changes r.lines; changed = false },
             Some (shown_at r last),
           ))) [ true ↦ clear | false ↦ clear ]
     ]
@@ -45,23 +46,40 @@ blank_clear rows r awaited (c ∷ cs) =
     ]
 
 -- the last sample is what a reader has left
-abbrev sample_at : ℕ → BusLines → Bool → Shown
-sample_at time lines changed = record { time = time; lines = without_changes lines; changed = changed; ports = lines.changed_ports }
+abbrev sample_at : Moment → BusLines → Bool → Shown
+sample_at at lines changed = record {
+  time = at.time;
+  line = at.line;
+  lines = without_changes lines;
+  changed = changed;
+  ports = lines.changed_ports;
+}
+
+abbrev begun_at : VcdReader → Moment
+begun_at v = record { time = v.time; line = v.time_line }
 
 left_by : (v : VcdReader) (lines : BusLines) (changed begun : Bool) → v.bus ≡ lines → changed ≡ v.is_changed
-    → (if begun then Sample (sample_at v.time lines changed) End else End)
-    ≡ (if begun then Sample (sample_at v.time v.bus v.is_changed) End else End)
+    → (if begun then Sample (sample_at (begun_at v) lines changed) End else End)
+    ≡ (if begun then Sample (sample_at (begun_at v) v.bus v.is_changed) End else End)
 left_by v lines changed begun at is =
-    ap (λ lines. if begun then Sample (sample_at v.time lines changed) End else End) (sym at)
-    ∙ ap (λ changed. if begun then Sample (sample_at v.time v.bus changed) End else End) is
+    ap (λ lines. if begun then Sample (sample_at (begun_at v) lines changed) End else End) (sym at)
+    ∙ ap (λ changed. if begun then Sample (sample_at (begun_at v) v.bus changed) End else End) is
 
-last_by : (r : Reading) (begun : Bool) (time : ℕ)
-    → last_of r (if begun then Some time else None) ≡ (if begun then Sample (shown_at r time) End else End)
-last_by r true time = refl
-last_by r false time = refl
+last_by : (r : Reading) (begun : Bool) (at : Moment)
+    → last_of r (if begun then Some at else None) ≡ (if begun then Sample (shown_at r at) End else End)
+last_by r true at = refl
+last_by r false at = refl
 
 last_left : (r : Reading) (v : VcdReader) → IsReading r v → last_of r r.time ≡ samples_left v
-last_left r v is = ap (last_of r) is.time ∙ last_by r v.is_begun v.time ∙ left_by v r.lines r.changed v.is_begun is.lines is.changed
+last_left r v is = ap (last_of r) is.time ∙ last_by r v.is_begun (begun_at v) ∙ left_by v r.lines r.changed v.is_begun is.lines is.changed
+
+-- a blank that ends a text ends no line
+abbrev blank_taken : Option (Reading × Option Shown) → Option (Reading × Option Shown)
+blank_taken o = option_map (after_byte 32) o
+
+blank_ends : (o : Option (Reading × Option Shown)) → ends_with o ≡ ends_with (blank_taken o)
+blank_ends None = refl
+blank_ends (Some taken) = refl
 
 -- whether a body may end after a blank
 whole_by : (r : Reading) (v : VcdReader) (whole : Bool) → r.word ≡ [] → IsReading r v
@@ -77,10 +95,12 @@ sample_by r (Some shown) v whole takes =
     (takes.1, sym (last_left r v takes.0))
 
 pub sample_ends : (o : Option (Reading × Option Shown)) (v : VcdReader) (whole : Bool) → IsClear o → TakesRead o steps.Sample v
-    → ((awaited : Awaited) → IsAt awaited [] v.body → whole ≡ may_end awaited) → whole ≡ true → ReportsLast (ends_with o) steps.Sample v
+    → ((awaited : Awaited) → IsAt awaited [] v.body → whole ≡ may_end awaited) → whole ≡ true
+    → ReportsLast (ends_with (blank_taken o)) steps.Sample v
 sample_ends None v whole clear takes says is = absurd takes
 sample_ends (Some taken) v whole clear takes says is =
-    sample_by taken.0 taken.1 v (whole_by taken.0 v whole clear takes.0 says ∙ is) takes
+    subst (λ samples. ReportsLast samples steps.Sample v) (blank_ends (Some taken))
+    (sample_by taken.0 taken.1 v (whole_by taken.0 v whole clear takes.0 says ∙ is) takes)
 
 -- it completes none, and leaves one at most
 none_by : (r : Reading) (shown : Option Shown) (step last : Step) (v w : VcdReader) → may_end r.awaited ≡ true → TakesRead (Some (r, shown)) step v
@@ -92,14 +112,15 @@ none_by r (Some shown) step last v w whole takes other left = absurd (other (tak
 
 pub none_ends : (o : Option (Reading × Option Shown)) (step last : Step) (v w : VcdReader) (whole : Bool) → IsClear o → TakesRead o step v
     → ((awaited : Awaited) → IsAt awaited [] v.body → whole ≡ may_end awaited) → whole ≡ true → step ≢ steps.Sample
-    → ReportsLast (samples_left v) last w → ReportsLast (ends_with o) last w
+    → ReportsLast (samples_left v) last w → ReportsLast (ends_with (blank_taken o)) last w
 none_ends None step last v w whole clear takes says is other left = absurd takes
 none_ends (Some taken) step last v w whole clear takes says is other left =
-    none_by taken.0 taken.1 step last v w (whole_by taken.0 v whole clear takes.0 says ∙ is) takes other left
+    subst (λ samples. ReportsLast samples last w) (blank_ends (Some taken))
+    (none_by taken.0 taken.1 step last v w (whole_by taken.0 v whole clear takes.0 says ∙ is) takes other left)
 
 -- the text ends in a change
 pub change_ends : (o : Option (Reading × Option Shown)) (step : Step) (v : VcdReader) (whole : Bool) → IsClear o → TakesRead o step v
-    → ((awaited : Awaited) → IsAt awaited [] v.body → whole ≡ may_end awaited) → whole ≡ false → ends_with o ≡ Broken
+    → ((awaited : Awaited) → IsAt awaited [] v.body → whole ≡ may_end awaited) → whole ≡ false → ends_with (blank_taken o) ≡ Broken
 change_ends None step v whole clear takes says is = absurd takes
 change_ends (Some taken) step v whole clear takes says is =
     ap (λ test. if test then before taken.1 (last_of taken.0 taken.0.time) else Broken)

@@ -16,6 +16,8 @@ use Rattle.vme_vcd_reader.specs.Headers.{Heading, Outcome, Goes, Declares, Ends,
 use Rattle.vme_vcd_reader.specs.Headings.{IsHeading, ReadsByte}
 use Rattle.vme_vcd_reader.specs.Mapping.{Declaration, declaration}
 use Rattle.vme_vcd_reader.specs.Matches.{lines_of}
+use Rattle.vme_vcd_reader.specs.Openings.{opening_of}
+use Rattle.vme_vcd_reader.specs.Presences.{presence_of}
 use Rattle.vme_vcd_reader.specs.Readers.{EntersBody, IsBefore, IsHeader, IsHeadingFault, IsReading, TakesHeading}
 
 -- a byte that completes nothing
@@ -82,12 +84,19 @@ before_header v s is = record {
 header_line : (map : Map) (h : Heading) (ds : List Declaration) (v : VcdReader) (n : ℕ) → IsHeader map h ds v → IsHeader map h ds (record v { line = n })
 header_line map h ds v n is = record { before = before_line v n is.before; same = is.same; heading = is.heading; matching = is.matching }
 
-reading_line : (r : Reading) (v : VcdReader) (n : ℕ) → IsReading r v → IsReading r (record v { line = n })
-reading_line r v n is =
-    record { entered = is.entered; body = is.body; table = is.table; lines = is.lines; time = is.time; changed = is.changed }
+pub reading_line : (r : Reading) (v : VcdReader) (m n : ℕ) → m ≡ n → IsReading r v → IsReading (record r { line = n }) (record v { line = m })
+reading_line r v m n same is = record {
+  entered = is.entered;
+  body = is.body;
+  table = is.table;
+  lines = is.lines;
+  time = is.time;
+  changed = is.changed;
+  line = same;
+}
 
 enters_line : (lines : Result (List (ℕ × Mapped)) VcdFault) (v : VcdReader) (n : ℕ) → EntersBody lines v → EntersBody lines (record v { line = n })
-enters_line (Ok lines) v n (rows, presence, reading) = (rows, presence, reading_line _ v n reading)
+enters_line (Ok lines) v n (rows, presence, reading) = (rows, presence, reading_line (opening_of (presence_of lines).busy v.line) v n n refl reading)
 enters_line (Err fault) v n enters = absurd enters
 
 -- a byte that ends a line

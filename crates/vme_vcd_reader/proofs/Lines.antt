@@ -1,5 +1,5 @@
 -- Lines of a body that are read whole.
-use Rattle.std.proofs.Common.{◌≡◌, ◌≢◌, ◌⊎◌, inl, inr, ℕ, zero, suc, ◌+◌, ◌-◌, ◌*◌, ◌%◌, ◌^◌, ◌<◌, ◌≤◌, Bool, false, ◌||◌, List, [], ◌∷◌, ◌++◌, length, get_or, take, drop, Option, Some, None, refl, ap, sym, subst, ◌∙◌, arith, append_assoc, append-nil, add-one}
+use Rattle.std.proofs.Common.{◌≡◌, ◌≢◌, ◌⊎◌, inl, inr, ℕ, zero, suc, ◌+◌, ◌-◌, ◌*◌, ◌%◌, ◌^◌, ◌<◌, ◌≤◌, Bool, false, ◌==◌, ◌||◌, List, [], ◌∷◌, ◌++◌, length, get_or, take, drop, Option, Some, None, refl, ap, sym, subst, ◌∙◌, arith, append_assoc, append-nil, add-one}
 use Rattle.std.specs.Prelude.{if◌then◌else◌, bit_or, IfSome}
 use Rattle.std.specs.Option.{option_map, option_and_then}
 use Rattle.std.proofs.Math.Seq.{take-suc}
@@ -12,9 +12,9 @@ use Rattle.vme_vcd_reader.specs.declared.bits.Level.TheVariants as levels
 use Rattle.vme_vcd_reader.specs.declared.bus.BusLines.{BusLines}
 use Rattle.vme_vcd_reader.specs.declared.quick.Quick.{Quick}
 use Rattle.vme_vcd_reader.specs.declared.table.Row.{Row}
-use Rattle.vme_vcd_reader.specs.Bodies.{Reading, Shown, byte_taken, samples_by, samples_of, time_taken}
+use Rattle.vme_vcd_reader.specs.Bodies.{Moment, Reading, Shown, after_byte, byte_taken, line_after, next_line, samples_by, samples_of, time_taken}
 use Rattle.vme_vcd_reader.specs.Levels.{level_of, levels_of, put, value_of, with_levels}
-use Rattle.vme_vcd_reader.specs.Lines.{HasNoBlank, IsChangeLine, IsNameLine, IsTimeLine, between, bytes_taken, list_of, shown_first}
+use Rattle.vme_vcd_reader.specs.Lines.{HasNoBlank, IsChangeLine, IsNameLine, IsTimeLine, between, bytes_taken, line_ended, list_of, shown_first}
 use Rattle.vme_vcd_reader.specs.Names.{identifier_of, no_identifier, with_character}
 use Rattle.vme_vcd_reader.specs.Tables.{has_variable, variables_after}
 use Rattle.vme_vcd_reader.specs.Words.{Awaited, Statement, Variable, Silence, At, blank_says, is_blank, number_from, with_digit}
@@ -38,49 +38,57 @@ listed : (rows : List Row) (o : Option (Reading × Option Shown))
 listed rows None = refl
 listed rows (Some taken) = ap Some (listed_by taken.0 taken.1)
 
+-- a byte within a word ends no line
+no_feed : (b : ℕ) → is_blank b ≡ false → (b == 10) ≡ false
+no_feed b within = grind (arith, nat_tests)
+
+within_line : (b line : ℕ) → is_blank b ≡ false → line_after b line ≡ line
+within_line b line within = ap (λ feed. if feed then next_line line else line) (no_feed b within)
+
 -- a byte within a word
-within_taken : (rows : List Row) (awaited : Awaited) (word : List ℕ) (b : ℕ) (lines : BusLines) (time : Option ℕ) (changed : Bool) → is_blank b ≡ false
-    → byte_taken rows (reading awaited word lines time changed) b ≡ Some (reading awaited (word ++ b ∷ []) lines time changed, None)
-within_taken rows awaited word b lines time changed within =
-    ap (λ blank. says_taken rows (reading awaited word lines time changed)
-    (if blank then blank_says awaited word else Some ((awaited, word ++ b ∷ []), Silence))) within
+within_taken : (rows : List Row) (awaited : Awaited) (word : List ℕ) (b : ℕ) (lines : BusLines) (time : Option Moment) (changed : Bool) (line : ℕ) → is_blank b ≡ false
+    → byte_taken rows (reading awaited word lines time changed line) b ≡ Some (reading awaited (word ++ b ∷ []) lines time changed line, None)
+within_taken rows awaited word b lines time changed line within =
+    ap (λ blank. option_map (after_byte b) (says_taken rows (reading awaited word lines time changed line)
+    (if blank then blank_says awaited word else Some ((awaited, word ++ b ∷ []), Silence)))) within
+    ∙ ap (λ line. Some (reading awaited (word ++ b ∷ []) lines time changed line, None)) (within_line b line within)
 
 -- bytes within a word
-word_taken : (rows : List Row) (awaited : Awaited) (word bs more : List ℕ) (lines : BusLines) (time : Option ℕ) (changed : Bool) → HasNoBlank bs
-    → bytes_taken rows (reading awaited word lines time changed) (bs ++ more) ≡ bytes_taken rows (reading awaited (word ++ bs) lines time changed) more
-word_taken rows awaited word [] more lines time changed whole =
-    ap (λ word. bytes_taken rows (reading awaited word lines time changed) more) (sym (append-nil word))
-word_taken rows awaited word (b ∷ bs) more lines time changed whole =
-    ap (option_and_then (then_bytes rows (bs ++ more))) (within_taken rows awaited word b lines time changed whole.0)
-    ∙ silent (bytes_taken rows (reading awaited (word ++ b ∷ []) lines time changed) (bs ++ more))
-    ∙ word_taken rows awaited (word ++ b ∷ []) bs more lines time changed whole.1
-    ∙ ap (λ word. bytes_taken rows (reading awaited word lines time changed) more) (append_assoc word (b ∷ []) bs)
+word_taken : (rows : List Row) (awaited : Awaited) (word bs more : List ℕ) (lines : BusLines) (time : Option Moment) (changed : Bool) (line : ℕ) → HasNoBlank bs
+    → bytes_taken rows (reading awaited word lines time changed line) (bs ++ more) ≡ bytes_taken rows (reading awaited (word ++ bs) lines time changed line) more
+word_taken rows awaited word [] more lines time changed line whole =
+    ap (λ word. bytes_taken rows (reading awaited word lines time changed line) more) (sym (append-nil word))
+word_taken rows awaited word (b ∷ bs) more lines time changed line whole =
+    ap (option_and_then (then_bytes rows (bs ++ more))) (within_taken rows awaited word b lines time changed line whole.0)
+    ∙ silent (bytes_taken rows (reading awaited (word ++ b ∷ []) lines time changed line) (bs ++ more))
+    ∙ word_taken rows awaited (word ++ b ∷ []) bs more lines time changed line whole.1
+    ∙ ap (λ word. bytes_taken rows (reading awaited word lines time changed line) more) (append_assoc word (b ∷ []) bs)
 
 -- bytes within a word, and the samples of the text after them
-word_shown : (rows : List Row) (awaited : Awaited) (word bs more : List ℕ) (lines : BusLines) (time : Option ℕ) (changed : Bool) → HasNoBlank bs
-    → samples_of rows (reading awaited word lines time changed) (bs ++ more) ≡ samples_of rows (reading awaited (word ++ bs) lines time changed) more
-word_shown rows awaited word [] more lines time changed whole =
-    ap (λ word. samples_of rows (reading awaited word lines time changed) more) (sym (append-nil word))
-word_shown rows awaited word (b ∷ bs) more lines time changed whole =
-    ap (λ o. samples_by rows o (bs ++ more)) (within_taken rows awaited word b lines time changed whole.0)
-    ∙ word_shown rows awaited (word ++ b ∷ []) bs more lines time changed whole.1
-    ∙ ap (λ word. samples_of rows (reading awaited word lines time changed) more) (append_assoc word (b ∷ []) bs)
+word_shown : (rows : List Row) (awaited : Awaited) (word bs more : List ℕ) (lines : BusLines) (time : Option Moment) (changed : Bool) (line : ℕ) → HasNoBlank bs
+    → samples_of rows (reading awaited word lines time changed line) (bs ++ more) ≡ samples_of rows (reading awaited (word ++ bs) lines time changed line) more
+word_shown rows awaited word [] more lines time changed line whole =
+    ap (λ word. samples_of rows (reading awaited word lines time changed line) more) (sym (append-nil word))
+word_shown rows awaited word (b ∷ bs) more lines time changed line whole =
+    ap (λ o. samples_by rows o (bs ++ more)) (within_taken rows awaited word b lines time changed line whole.0)
+    ∙ word_shown rows awaited (word ++ b ∷ []) bs more lines time changed line whole.1
+    ∙ ap (λ word. samples_of rows (reading awaited word lines time changed line) more) (append_assoc word (b ∷ []) bs)
 
 -- after a change of a variable
-abbrev changed_by : List Row → ℕ → Bits → BusLines → Option ℕ → Bool → Option (Reading × List Shown)
-changed_by rows identifier bits lines time changed =
-    Some (between (variables_after rows identifier bits lines) time (changed || has_variable rows identifier), [])
+abbrev changed_by : List Row → ℕ → Bits → BusLines → Option Moment → Bool → ℕ → Option (Reading × List Shown)
+changed_by rows identifier bits lines time changed line =
+    Some (between (variables_after rows identifier bits lines) time (changed || has_variable rows identifier) (next_line line), [])
 
 -- a change of a bit
-low_taken : (rows : List Row) (c : ℕ) (cs : List ℕ) (lines : BusLines) (time : Option ℕ) (changed : Bool) → HasNoBlank (c ∷ cs)
-    → bytes_taken rows (between lines time changed) ((48 ∷ c ∷ cs) ++ 10 ∷ [])
-    ≡ changed_by rows (identifier_of (c ∷ cs)) (value_of (levels.Low ∷ [])) lines time changed
-low_taken rows c cs lines time changed whole = word_taken rows Statement [] (48 ∷ c ∷ cs) (10 ∷ []) lines time changed (refl, whole)
+low_taken : (rows : List Row) (c : ℕ) (cs : List ℕ) (lines : BusLines) (time : Option Moment) (changed : Bool) (line : ℕ) → HasNoBlank (c ∷ cs)
+    → bytes_taken rows (between lines time changed line) ((48 ∷ c ∷ cs) ++ 10 ∷ [])
+    ≡ changed_by rows (identifier_of (c ∷ cs)) (value_of (levels.Low ∷ [])) lines time changed line
+low_taken rows c cs lines time changed line whole = word_taken rows Statement [] (48 ∷ c ∷ cs) (10 ∷ []) lines time changed line (refl, whole)
 
-high_taken : (rows : List Row) (c : ℕ) (cs : List ℕ) (lines : BusLines) (time : Option ℕ) (changed : Bool) → HasNoBlank (c ∷ cs)
-    → bytes_taken rows (between lines time changed) ((49 ∷ c ∷ cs) ++ 10 ∷ [])
-    ≡ changed_by rows (identifier_of (c ∷ cs)) (value_of (levels.High ∷ [])) lines time changed
-high_taken rows c cs lines time changed whole = word_taken rows Statement [] (49 ∷ c ∷ cs) (10 ∷ []) lines time changed (refl, whole)
+high_taken : (rows : List Row) (c : ℕ) (cs : List ℕ) (lines : BusLines) (time : Option Moment) (changed : Bool) (line : ℕ) → HasNoBlank (c ∷ cs)
+    → bytes_taken rows (between lines time changed line) ((49 ∷ c ∷ cs) ++ 10 ∷ [])
+    ≡ changed_by rows (identifier_of (c ∷ cs)) (value_of (levels.High ∷ [])) lines time changed line
+high_taken rows c cs lines time changed line whole = word_taken rows Statement [] (49 ∷ c ∷ cs) (10 ∷ []) lines time changed line (refl, whole)
 
 -- a line is what stands before the rest
 line_of : (first : ℕ) (line rest text : List ℕ) → text ≡ line ++ 10 ∷ rest → first ∷ text ≡ ((first ∷ line) ++ 10 ∷ []) ++ rest
@@ -92,9 +100,9 @@ low_line text rest whole identifier bits at name is = record {
   line = (48 ∷ name.first ∷ name.more) ++ 10 ∷ [];
   text_is = at ∙ line_of 48 (name.first ∷ name.more) rest text name.text_is;
   some = omega arith;
-  says = λ rows lines time changed. low_taken rows name.first name.more lines time changed name.whole
-      ∙ ap (λ n. changed_by rows n (value_of (levels.Low ∷ [])) lines time changed) (sym name.number)
-      ∙ ap (λ bits. changed_by rows identifier bits lines time changed) (sym is);
+  says = λ rows lines time changed line. low_taken rows name.first name.more lines time changed line name.whole
+      ∙ ap (λ n. changed_by rows n (value_of (levels.Low ∷ [])) lines time changed line) (sym name.number)
+      ∙ ap (λ bits. changed_by rows identifier bits lines time changed line) (sym is);
 }
 
 pub high_line : (text rest whole : List ℕ) (identifier : ℕ) (bits : Bits) → whole ≡ 49 ∷ text → IsNameLine text rest identifier
@@ -103,9 +111,9 @@ high_line text rest whole identifier bits at name is = record {
   line = (49 ∷ name.first ∷ name.more) ++ 10 ∷ [];
   text_is = at ∙ line_of 49 (name.first ∷ name.more) rest text name.text_is;
   some = omega arith;
-  says = λ rows lines time changed. high_taken rows name.first name.more lines time changed name.whole
-      ∙ ap (λ n. changed_by rows n (value_of (levels.High ∷ [])) lines time changed) (sym name.number)
-      ∙ ap (λ bits. changed_by rows identifier bits lines time changed) (sym is);
+  says = λ rows lines time changed line. high_taken rows name.first name.more lines time changed line name.whole
+      ∙ ap (λ n. changed_by rows n (value_of (levels.High ∷ [])) lines time changed line) (sym name.number)
+      ∙ ap (λ bits. changed_by rows identifier bits lines time changed line) (sym is);
 }
 
 -- digits that are 0 or 1
@@ -167,25 +175,25 @@ bits_whole [] are = tt
 bits_whole (d ∷ ds) are = (bit_whole d are.0, bits_whole ds are.1)
 
 -- a change of a vector: its digits, a space, its identifier and a line feed
-digits_taken : (rows : List Row) (d : ℕ) (ds more : List ℕ) (ls : List Level) (lines : BusLines) (time : Option ℕ) (changed : Bool)
+digits_taken : (rows : List Row) (d : ℕ) (ds more : List ℕ) (ls : List Level) (lines : BusLines) (time : Option Moment) (changed : Bool) (line : ℕ)
     → levels_of (d ∷ ds) ≡ Some ls
-    → bytes_taken rows (reading Statement (98 ∷ d ∷ ds) lines time changed) (32 ∷ more)
-    ≡ bytes_taken rows (reading (Variable ls) [] lines time changed) more
-digits_taken rows d ds more ls lines time changed are =
-    ap (λ (o : Option (List Level)). option_and_then (then_bytes rows more)
-    (says_taken rows (reading Statement (98 ∷ d ∷ ds) lines time changed) (ended (option_map (λ levels. (Variable levels, Silence)) o)))) are
-    ∙ silent (bytes_taken rows (reading (Variable ls) [] lines time changed) more)
+    → bytes_taken rows (reading Statement (98 ∷ d ∷ ds) lines time changed line) (32 ∷ more)
+    ≡ bytes_taken rows (reading (Variable ls) [] lines time changed line) more
+digits_taken rows d ds more ls lines time changed line are =
+    ap (λ (o : Option (List Level)). option_and_then (then_bytes rows more) (option_map (after_byte 32)
+    (says_taken rows (reading Statement (98 ∷ d ∷ ds) lines time changed line) (ended (option_map (λ levels. (Variable levels, Silence)) o))))) are
+    ∙ silent (bytes_taken rows (reading (Variable ls) [] lines time changed line) more)
 
-vector_taken : (rows : List Row) (d : ℕ) (ds : List ℕ) (c : ℕ) (cs : List ℕ) (lines : BusLines) (time : Option ℕ) (changed : Bool)
+vector_taken : (rows : List Row) (d : ℕ) (ds : List ℕ) (c : ℕ) (cs : List ℕ) (lines : BusLines) (time : Option Moment) (changed : Bool) (line : ℕ)
     → AreBits (d ∷ ds) → HasNoBlank (c ∷ cs)
-    → bytes_taken rows (between lines time changed) ((98 ∷ d ∷ ds) ++ 32 ∷ ((c ∷ cs) ++ 10 ∷ []))
-    ≡ changed_by rows (identifier_of (c ∷ cs)) (ones_bits (ones_from 0 (d ∷ ds))) lines time changed
-vector_taken rows d ds c cs lines time changed are whole =
+    → bytes_taken rows (between lines time changed line) ((98 ∷ d ∷ ds) ++ 32 ∷ ((c ∷ cs) ++ 10 ∷ []))
+    ≡ changed_by rows (identifier_of (c ∷ cs)) (ones_bits (ones_from 0 (d ∷ ds))) lines time changed line
+vector_taken rows d ds c cs lines time changed line are whole =
     let known : AreLevels (d ∷ ds) 0 = are_levels (d ∷ ds) 0 are in
-    word_taken rows Statement [] (98 ∷ d ∷ ds) (32 ∷ ((c ∷ cs) ++ 10 ∷ [])) lines time changed (refl, bits_whole (d ∷ ds) are)
-    ∙ digits_taken rows d ds ((c ∷ cs) ++ 10 ∷ []) known.levels lines time changed known.are
-    ∙ word_taken rows (Variable known.levels) [] (c ∷ cs) (10 ∷ []) lines time changed whole
-    ∙ ap (λ bits. changed_by rows (identifier_of (c ∷ cs)) bits lines time changed) (known.value ∙ known.bits)
+    word_taken rows Statement [] (98 ∷ d ∷ ds) (32 ∷ ((c ∷ cs) ++ 10 ∷ [])) lines time changed line (refl, bits_whole (d ∷ ds) are)
+    ∙ digits_taken rows d ds ((c ∷ cs) ++ 10 ∷ []) known.levels lines time changed line known.are
+    ∙ word_taken rows (Variable known.levels) [] (c ∷ cs) (10 ∷ []) lines time changed line whole
+    ∙ ap (λ bits. changed_by rows (identifier_of (c ∷ cs)) bits lines time changed line) (known.value ∙ known.bits)
 
 vector_text : (d : ℕ) (ds name rest text whole : List ℕ) → whole ≡ 98 ∷ ((d ∷ ds) ++ 32 ∷ text) → text ≡ name ++ 10 ∷ rest
     → whole ≡ ((98 ∷ d ∷ ds) ++ 32 ∷ (name ++ 10 ∷ [])) ++ rest
@@ -200,9 +208,9 @@ vector_by (d ∷ ds) text rest whole identifier bits are some at name is = recor
   line = (98 ∷ d ∷ ds) ++ 32 ∷ ((name.first ∷ name.more) ++ 10 ∷ []);
   text_is = vector_text d ds (name.first ∷ name.more) rest text whole at name.text_is;
   some = omega arith;
-  says = λ rows lines time changed. vector_taken rows d ds name.first name.more lines time changed are name.whole
-      ∙ ap (λ n. changed_by rows n (ones_bits (ones_from 0 (d ∷ ds))) lines time changed) (sym name.number)
-      ∙ ap (λ bits. changed_by rows identifier bits lines time changed) (sym is);
+  says = λ rows lines time changed line. vector_taken rows d ds name.first name.more lines time changed line are name.whole
+      ∙ ap (λ n. changed_by rows n (ones_bits (ones_from 0 (d ∷ ds))) lines time changed line) (sym name.number)
+      ∙ ap (λ bits. changed_by rows identifier bits lines time changed line) (sym is);
 }
 
 -- a text by its bytes up to a place, that at the place, and those after it
@@ -280,26 +288,26 @@ bit_end (Some quick) text n long low high is name bits =
     (bit_by (get_or text 0 0) low high) name (bits ∙ ap ones_bits is))
 
 -- a time: its digits and a line feed
-time_taken_by : (rows : List Row) (d : ℕ) (ds : List ℕ) (time : ℕ) (lines : BusLines) (before : Option ℕ) (changed : Bool)
+time_taken_by : (rows : List Row) (d : ℕ) (ds : List ℕ) (time : ℕ) (lines : BusLines) (before : Option Moment) (changed : Bool) (line : ℕ)
     → HasNoBlank (d ∷ ds) → number_from 0 (d ∷ ds) ≡ Some time
-    → bytes_taken rows (between lines before changed) ((35 ∷ d ∷ ds) ++ 10 ∷ [])
-    ≡ option_map (λ taken. (taken.0, list_of taken.1)) (time_taken (between lines before changed) before time)
-time_taken_by rows d ds time lines before changed whole is =
-    word_taken rows Statement [] (35 ∷ d ∷ ds) (10 ∷ []) lines before changed (refl, whole)
-    ∙ ap (λ (o : Option ℕ). option_and_then (then_bytes rows [])
-    (says_taken rows (reading Statement (35 ∷ d ∷ ds) lines before changed) (ended (option_map (λ time. (Statement, At time)) o)))) is
-    ∙ listed rows (time_taken (between lines before changed) before time)
+    → bytes_taken rows (between lines before changed line) ((35 ∷ d ∷ ds) ++ 10 ∷ [])
+    ≡ option_map (λ taken. (taken.0, list_of taken.1)) (line_ended (time_taken (between lines before changed line) before time))
+time_taken_by rows d ds time lines before changed line whole is =
+    word_taken rows Statement [] (35 ∷ d ∷ ds) (10 ∷ []) lines before changed line (refl, whole)
+    ∙ ap (λ (o : Option ℕ). option_and_then (then_bytes rows []) (option_map (after_byte 10)
+    (says_taken rows (reading Statement (35 ∷ d ∷ ds) lines before changed line) (ended (option_map (λ time. (Statement, At time)) o))))) is
+    ∙ listed rows (line_ended (time_taken (between lines before changed line) before time))
 
 -- the samples of a text after it
-time_shown : (rows : List Row) (d : ℕ) (ds : List ℕ) (time : ℕ) (lines : BusLines) (before : Option ℕ) (changed : Bool) (more : List ℕ)
+time_shown : (rows : List Row) (d : ℕ) (ds : List ℕ) (time : ℕ) (lines : BusLines) (before : Option Moment) (changed : Bool) (line : ℕ) (more : List ℕ)
     → HasNoBlank (d ∷ ds) → number_from 0 (d ∷ ds) ≡ Some time
-    → samples_of rows (between lines before changed) (((35 ∷ d ∷ ds) ++ 10 ∷ []) ++ more)
-    ≡ samples_by rows (time_taken (between lines before changed) before time) more
-time_shown rows d ds time lines before changed more whole is =
-    ap (samples_of rows (between lines before changed)) (append_assoc (35 ∷ d ∷ ds) (10 ∷ []) more)
-    ∙ word_shown rows Statement [] (35 ∷ d ∷ ds) (10 ∷ more) lines before changed (refl, whole)
-    ∙ ap (λ (o : Option ℕ). samples_by rows
-    (says_taken rows (reading Statement (35 ∷ d ∷ ds) lines before changed) (ended (option_map (λ time. (Statement, At time)) o))) more) is
+    → samples_of rows (between lines before changed line) (((35 ∷ d ∷ ds) ++ 10 ∷ []) ++ more)
+    ≡ samples_by rows (line_ended (time_taken (between lines before changed line) before time)) more
+time_shown rows d ds time lines before changed line more whole is =
+    ap (samples_of rows (between lines before changed line)) (append_assoc (35 ∷ d ∷ ds) (10 ∷ []) more)
+    ∙ word_shown rows Statement [] (35 ∷ d ∷ ds) (10 ∷ more) lines before changed line (refl, whole)
+    ∙ ap (λ (o : Option ℕ). samples_by rows (option_map (after_byte 10)
+    (says_taken rows (reading Statement (35 ∷ d ∷ ds) lines before changed line) (ended (option_map (λ time. (Statement, At time)) o)))) more) is
 
 time_by : (digits rest text : List ℕ) (time : ℕ) → HasNoBlank digits → 0 < length digits → number_from 0 digits ≡ Some time
     → text ≡ 35 ∷ (digits ++ 10 ∷ rest) → IsTimeLine text rest time
@@ -308,8 +316,8 @@ time_by (d ∷ ds) rest text time whole some is at = record {
   line = (35 ∷ d ∷ ds) ++ 10 ∷ [];
   text_is = at ∙ sym (append_assoc (35 ∷ d ∷ ds) (10 ∷ []) rest);
   some = omega arith;
-  says = λ rows lines before changed. time_taken_by rows d ds time lines before changed whole is;
-  shows = λ rows lines before changed more. time_shown rows d ds time lines before changed more whole is;
+  says = λ rows lines before changed line. time_taken_by rows d ds time lines before changed line whole is;
+  shows = λ rows lines before changed line more. time_shown rows d ds time lines before changed line more whole is;
 }
 
 pub time_line : (text digits rest : List ℕ) (k time : ℕ) → 1 ≤ length text → get_or text 0 0 ≡ 35

@@ -3,7 +3,7 @@ use Rattle.std.specs.Prelude.{ℕ, ◌&&◌, if◌then◌else◌, is_some, List,
 use Rattle.vme_vcd_reader.specs.declared.fault.VcdFault.{VcdFault}
 use Rattle.vme_vcd_reader.specs.declared.fault.VcdFault.TheVariants as faults
 use Rattle.vme_vcd_reader.specs.declared.table.Row.{Row}
-use Rattle.vme_vcd_reader.specs.Bodies.{Reading, byte_taken}
+use Rattle.vme_vcd_reader.specs.Bodies.{Reading, byte_said}
 use Rattle.vme_vcd_reader.specs.Words.{Opening, Number, Vector, Skipped, Keyword, Scalar, opening, Awaited, Statement, Variable, Unread, Remark, blank_says, is_blank}
 
 -- why no word begins so, or no dump has a word that does: a time is no number below 2^64, a digit is no level, or a change has
@@ -30,4 +30,4 @@ byte_fault r b = if is_blank b && is_some (blank_says r.awaited r.word) then fau
 
 -- why a body does not end where it ends: its last word is none of a dump, or it ends in a change
 abbrev pub end_fault : List Row → Reading → VcdFault
-end_fault rows r = if is_some (byte_taken rows r 32) then faults.EndsInChange else byte_fault r 32
+end_fault rows r = if is_some (byte_said rows r 32) then faults.EndsInChange else byte_fault r 32

@@ -5,6 +5,7 @@ pub mod Places
 pub mod Changes
 pub mod Buses
 pub mod Ports
+pub mod ControlLines
 pub mod Tables
 pub mod Bodies
 pub mod Openings

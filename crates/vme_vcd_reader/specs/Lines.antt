@@ -4,7 +4,7 @@ use Rattle.std.specs.Option.{option_map, option_and_then}
 use Rattle.vme_vcd_reader.specs.declared.bits.Bits.{Bits}
 use Rattle.vme_vcd_reader.specs.declared.bus.BusLines.{BusLines}
 use Rattle.vme_vcd_reader.specs.declared.table.Row.{Row}
-use Rattle.vme_vcd_reader.specs.Bodies.{Reading, Shown, byte_taken, samples_by, samples_of, time_taken}
+use Rattle.vme_vcd_reader.specs.Bodies.{Moment, Reading, Shown, after_byte, byte_taken, next_line, samples_by, samples_of, time_taken}
 use Rattle.vme_vcd_reader.specs.Names.{identifier_of}
 use Rattle.vme_vcd_reader.specs.Tables.{has_variable, variables_after}
 use Rattle.vme_vcd_reader.specs.Words.{Statement, is_blank}
@@ -22,8 +22,15 @@ bytes_taken rows r (b ∷ bs) =
     (byte_taken rows r b)
 
 -- a body between two words
-abbrev pub between : BusLines → Option ℕ → Bool → Reading
-between lines time changed = record { awaited = Statement; word = []; lines = lines; time = time; changed = changed }
+abbrev pub between : BusLines → Option Moment → Bool → ℕ → Reading
+between lines time changed n = record {
+  awaited = Statement;
+  word = [];
+  lines = lines;
+  time = time;
+  changed = changed;
+  line = n;
+}
 
 -- the samples that there are, if there is one at most
 abbrev pub list_of : Option Shown → List Shown
@@ -35,21 +42,28 @@ pub record IsChangeLine (text rest : List ℕ) (identifier : ℕ) (bits : Bits) 
   pub line : List ℕ
   pub text_is : text ≡ line ++ rest
   pub some : 0 < length line
-  pub says : (rows : List Row) (lines : BusLines) (time : Option ℕ) (changed : Bool)
-      → bytes_taken rows (between lines time changed) line
-      ≡ Some (between (variables_after rows identifier bits lines) time (changed || has_variable rows identifier), [])
+  pub says : (rows : List Row) (lines : BusLines) (time : Option Moment) (changed : Bool) (n : ℕ)
+      → bytes_taken rows (between lines time changed n) line
+      ≡ Some (
+        between (variables_after rows identifier bits lines) time (changed || has_variable rows identifier) (next_line n),
+        [],
+      )
+
+-- a body after a line feed
+abbrev pub line_ended : Option (Reading × Option Shown) → Option (Reading × Option Shown)
+line_ended o = option_map (after_byte 10) o
 
 -- a text begins with a line that is a time
 pub record IsTimeLine (text rest : List ℕ) (time : ℕ) : Type 0 where
   pub line : List ℕ
   pub text_is : text ≡ line ++ rest
   pub some : 0 < length line
-  pub says : (rows : List Row) (lines : BusLines) (before : Option ℕ) (changed : Bool)
-      → bytes_taken rows (between lines before changed) line
-      ≡ option_map (λ taken. (taken.0, list_of taken.1)) (time_taken (between lines before changed) before time)
-  pub shows : (rows : List Row) (lines : BusLines) (before : Option ℕ) (changed : Bool) (more : List ℕ)
-      → samples_of rows (between lines before changed) (line ++ more)
-      ≡ samples_by rows (time_taken (between lines before changed) before time) more
+  pub says : (rows : List Row) (lines : BusLines) (before : Option Moment) (changed : Bool) (n : ℕ)
+      → bytes_taken rows (between lines before changed n) line
+      ≡ option_map (λ taken. (taken.0, list_of taken.1)) (line_ended (time_taken (between lines before changed n) before time))
+  pub shows : (rows : List Row) (lines : BusLines) (before : Option Moment) (changed : Bool) (n : ℕ) (more : List ℕ)
+      → samples_of rows (between lines before changed n) (line ++ more)
+      ≡ samples_by rows (line_ended (time_taken (between lines before changed n) before time)) more
 
 -- no byte is a blank
 abbrev pub HasNoBlank : List ℕ → Type 0

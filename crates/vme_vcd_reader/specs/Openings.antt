@@ -1,5 +1,5 @@
 -- What is known before the first change of a dump.
-use Rattle.std.specs.Prelude.{◌-◌, ◌^◌, Bool, true, false, [], replicate, None}
+use Rattle.std.specs.Prelude.{ℕ, ◌-◌, ◌^◌, Bool, true, false, [], replicate, None}
 use Rattle.vme_protocol.specs.declared.sample.Sample.{Sample}
 use Rattle.vme_vcd_reader.specs.declared.bus.BusLines.{BusLines}
 use Rattle.vme_vcd_reader.specs.Bodies.{Reading}
@@ -45,12 +45,13 @@ resting = record {
   has_busy = false;
 }
 
--- a body before its first byte, by whether the header names BBSY* of the bus
-abbrev pub opening_of : Bool → Reading
-opening_of has_busy = record {
+-- a body before its first byte, by whether the header names BBSY* of the bus, and the line of the text that has the byte
+abbrev pub opening_of : Bool → ℕ → Reading
+opening_of has_busy line = record {
   awaited = Statement;
   word = [];
   lines = record resting { has_busy = has_busy };
   time = None;
   changed = true;
+  line = line;
 }

@@ -5,7 +5,7 @@ use Rattle.vme_vcd_reader.specs.declared.reader.Step.{Step}
 use Rattle.vme_vcd_reader.specs.declared.reader.Step.TheVariants as steps
 use Rattle.vme_vcd_reader.specs.declared.reader.VcdReader.{VcdReader}
 use Rattle.vme_vcd_reader.specs.declared.table.Row.{Row}
-use Rattle.vme_vcd_reader.specs.Bodies.{Reading, Shown, Samples, Sample, End, Broken, samples_of}
+use Rattle.vme_vcd_reader.specs.Bodies.{Moment, Reading, Shown, Samples, Sample, End, Broken, samples_of}
 use Rattle.vme_vcd_reader.specs.Headers.{Heading, Outcome, Goes, Declares, Ends, Rejects}
 use Rattle.vme_vcd_reader.specs.declared.fault.VcdFault.{VcdFault}
 use Rattle.vme_vcd_reader.specs.declared.fault.VcdFault.TheVariants as faults
@@ -27,8 +27,8 @@ abbrev pub rows_of : VcdReader → List Row
 rows_of v = v.table.rows.items
 
 -- the time whose changes are read
-abbrev pub time_of : VcdReader → Option ℕ
-time_of v = if v.is_begun then Some v.time else None
+abbrev pub time_of : VcdReader → Option Moment
+time_of v = if v.is_begun then Some (record { time = v.time; line = v.time_line }) else None
 
 -- a reader has read the header, and a body as far
 pub record IsReading (r : Reading) (v : VcdReader) : Type 0 where
@@ -38,6 +38,7 @@ pub record IsReading (r : Reading) (v : VcdReader) : Type 0 where
   pub lines : v.bus ≡ r.lines
   pub time : r.time ≡ time_of v
   pub changed : r.changed ≡ v.is_changed
+  pub line : v.line ≡ r.line
 
 -- a reader has read part of the header at most: nothing of a body, and no variable is mapped
 pub record IsBefore (v : VcdReader) : Type 0 where
@@ -52,7 +53,7 @@ pub record IsBefore (v : VcdReader) : Type 0 where
 -- a reader goes on with the header, or has read it whole, and its body begins
 abbrev pub Enters : Step → VcdReader → Type 0
 Enters steps.More v = IsBefore v
-Enters steps.Header v = IsReading (opening_of v.presence.busy) v
+Enters steps.Header v = IsReading (opening_of v.presence.busy v.line) v
 Enters steps.Sample v = ⊥
 
 -- a reader with a map has read a header as far, which has declared these variables
@@ -65,7 +66,8 @@ pub record IsHeader (map : Map) (h : Heading) (ds : List Declaration) (v : VcdRe
 -- a reader begins with the body of a dump that has these lines; with none if they are not read
 abbrev pub EntersBody : Result (List (ℕ × Mapped)) VcdFault → VcdReader → Type 0
 EntersBody (Ok lines) v =
-    (variables_of (rows_of v) ≡ lines) × (v.presence ≡ presence_of lines) × IsReading (opening_of (presence_of lines).busy) v
+    (variables_of (rows_of v) ≡ lines) × (v.presence ≡ presence_of lines)
+    × IsReading (opening_of (presence_of lines).busy v.line) v
 EntersBody (Err fault) v = ⊥
 
 -- a reader has taken a byte of a header that has declared these variables: it goes on with the header, or has read it whole
@@ -87,7 +89,7 @@ abbrev pub ReportsSample : Option Shown → Step → VcdReader → Type 0
 ReportsSample None step v = step ≡ steps.More
 ReportsSample (Some shown) step v =
     (step ≡ steps.Sample) × (v.sample_time ≡ shown.time) × (v.bus ≡ shown.lines) × (v.sample_is_changed ≡ shown.changed)
-    × (v.sample_ports ≡ shown.ports)
+    × (v.sample_ports ≡ shown.ports) × (v.sample_line ≡ shown.line)
 
 -- a reader has taken what was read, and reports the sample that it completes
 abbrev pub TakesRead : Option (Reading × Option Shown) → Step → VcdReader → Type 0
@@ -114,12 +116,19 @@ IsBroken rows r b = (rest : List ℕ) → samples_of rows r (b ∷ rest) ≡ Bro
 abbrev pub IsBrokenText : List Row → Reading → List ℕ → Type 0
 IsBrokenText rows r text = (rest : List ℕ) → samples_of rows r (text ++ rest) ≡ Broken
 
+-- the sample of the time whose changes are read
+abbrev pub shown_last : VcdReader → Shown
+shown_last v = record {
+  time = v.time;
+  line = v.time_line;
+  lines = without_changes v.bus;
+  changed = v.is_changed;
+  ports = v.bus.changed_ports;
+}
+
 -- the samples that are left at the end of a text: that of the time whose changes are read
 abbrev pub samples_left : VcdReader → Samples
-samples_left v =
-    if v.is_begun
-    then Sample (record { time = v.time; lines = without_changes v.bus; changed = v.is_changed; ports = v.bus.changed_ports }) End
-    else End
+samples_left v = if v.is_begun then Sample (shown_last v) End else End
 
 -- a reader reports the first of the last samples of a text, if there is one, and has the others left
 abbrev pub ReportsLast : Samples → Step → VcdReader → Type 0

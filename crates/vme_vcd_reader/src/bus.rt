@@ -2,12 +2,17 @@
 ghost use Rattle.std.specs.Prelude.{◌≡◌};
 ghost use Rattle.vme_vcd_reader.specs.Buses.{after_change, any_of, bus_after, defined_lane, defined_lanes, level_set, level_sets, port_after, port_changed, sample_lines, sample_of, showing, slot_after, with_slot};
 ghost use Rattle.vme_vcd_reader.specs.Changes.{level_after, undefined_after};
+ghost use Rattle.vme_vcd_reader.specs.ControlLines.{undefined_line};
 ghost use Rattle.vme_vcd_reader.specs.Openings.{resting};
 ghost use Rattle.vme_vcd_reader.specs.Ports.{port_in, without_changes};
 ghost use Rattle.vme_line_map.specs.declared.group.Group.TheVariants.{Modifier};
 
 use crate::bits::Bits;
 use crate::change::Change;
+use crate::control::{
+    ACKNOWLEDGE, ADDRESS_STROBE, BUS_ERROR, BUSY, ControlLine, INTERRUPT_ACKNOWLEDGE, LOWER_STROBE,
+    UPPER_STROBE, first_marked,
+};
 use crate::variable::Mapped;
 use vme_line_map::Group;
 use vme_protocol::{Port, Sample};
@@ -48,21 +53,6 @@ pub struct BusLines {
     /// Whether the dump has BBSY* of the bus.
     has_busy: bool,
 }
-
-/// The control lines that can be undefined, as bits of `undefined`.
-const ADDRESS_STROBE: u32 = 1;
-
-const UPPER_STROBE: u32 = 2;
-
-const LOWER_STROBE: u32 = 4;
-
-const ACKNOWLEDGE: u32 = 8;
-
-const BUS_ERROR: u32 = 16;
-
-const INTERRUPT_ACKNOWLEDGE: u32 = 32;
-
-const BUSY: u32 = 64;
 
 /// The lines before any change.
 const RESTING: Sample = Sample {
@@ -197,24 +187,26 @@ impl BusLines {
         Some(lines.port)
     }
 
-    /// Returns the name of a control line of the bus that is undefined, if there is one.
-    pub fn undefined_line(&self) -> Option<&'static str> {
-        let names = ["AS*", "DS1*", "DS0*", "DTACK*", "BERR*", "IACK*", "BBSY*"];
-        for (place, name) in names.iter().enumerate() {
-            if self.undefined & 1u32.wrapping_shl(place as u32) != 0 {
-                return Some(*name);
-            }
-        }
-        if self.undefined_drivers != 0 {
-            return Some("BBSY* of a slot");
-        }
-        if any_of(&self.undefined_requests) != 0 {
-            return Some("BRn* of a slot");
-        }
-        if any_of(&self.undefined_grants) != 0 {
-            return Some("BGnIN* of a slot");
-        }
-        None
+    /// Returns the first control line that is undefined, if one is.
+    pub fn undefined_line(&self) -> Option<ControlLine>
+        ensures { result ≡ undefined_line self.now }
+    {
+        let bus = self.undefined;
+        first_marked(&[
+            (ControlLine::AddressStrobe, bus & ADDRESS_STROBE),
+            (ControlLine::UpperStrobe, bus & UPPER_STROBE),
+            (ControlLine::LowerStrobe, bus & LOWER_STROBE),
+            (ControlLine::Acknowledge, bus & ACKNOWLEDGE),
+            (ControlLine::BusError, bus & BUS_ERROR),
+            (
+                ControlLine::InterruptAcknowledge,
+                bus & INTERRUPT_ACKNOWLEDGE,
+            ),
+            (ControlLine::Busy, bus & BUSY),
+            (ControlLine::SlotBusy, self.undefined_drivers),
+            (ControlLine::SlotRequest, any_of(&self.undefined_requests)),
+            (ControlLine::SlotGrant, any_of(&self.undefined_grants)),
+        ])
     }
 
     /// Returns the slots whose ports have changed since the last call.

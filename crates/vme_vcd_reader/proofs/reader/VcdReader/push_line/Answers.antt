@@ -1,5 +1,6 @@
-use Rattle.std.proofs.Common.{◌≡◌, arith, rules}
+use Rattle.std.proofs.Common.{◌≡◌, ap, arith, rules}
 use Rattle.vme_vcd_reader.specs.declared.body.Place.TheVariants as places
+use Rattle.vme_vcd_reader.specs.Bodies.{next_line}
 use Rattle.vme_vcd_reader.proofs.Taken.{line_changes}
 use Rattle.vme_vcd_reader.proofs.reader.VcdReader.push_line.Goals as goal
 
@@ -7,7 +8,7 @@ pub returns-in-Some-clause-says : goal.returns-in-Some-clause-says
 returns-in-Some-clause-says c = λ r is.
     let gap : c.args.self.now.body.place ≡ places.Gap = first_of (search rules, grind arith) in
     line_changes r c.args.self.now c.change_to.new.self c.args.text.now c.in-Some.quick.rest.now c.in-Some.quick.identifier c.in-Some.quick.bits _ is
-    gap c.in-Some.ensures (c.change_to.ensures.lines is.table)
+    gap c.in-Some.ensures (c.change_to.ensures.lines is.table) (ap next_line c.change_to.ensures.line)
 
 pub returns-clause-says : goal.returns-clause-says
 returns-clause-says c = λ r is.
