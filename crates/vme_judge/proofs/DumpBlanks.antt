@@ -7,6 +7,7 @@ use Rattle.std.proofs.lemmas.List.{drop_more, take-append-drop, take_more}
 use Rattle.vme_line_map.specs.Variables.{Map}
 use Rattle.vme_vcd_reader.specs.declared.reader.Step.{Step}
 use Rattle.vme_vcd_reader.specs.declared.reader.VcdReader.{VcdReader}
+use Rattle.vme_vcd_reader.specs.Bodies.{line_after}
 use Rattle.vme_vcd_reader.specs.Headers.{Outcome, Goes, beginning, blank_read, byte_read}
 use Rattle.vme_vcd_reader.specs.Mapping.{Declaration}
 use Rattle.vme_vcd_reader.specs.Readers.{IsHeader, TakesHeading}
@@ -17,8 +18,8 @@ use Rattle.vme_judge.specs.declared.rejection.Rejection.{Rejection}
 use Rattle.vme_judge.specs.declared.run.Kind.{Kind}
 use Rattle.vme_judge.specs.declared.run.Kind.TheVariants as kinds
 use Rattle.vme_judge.specs.declared.run.Run.{Run}
-use Rattle.vme_judge.specs.Blanks.{AreBlanks, BeginsDump, IsBlankSoFar, ReadsBlanks, SkipsBlanks, TakesBlanks, TakesFirst, TakesFurther, blanks_whole}
-use Rattle.vme_judge.specs.DumpRuns.{InHeader, IsDumpJudgedAs, TakesDump, dump_at, dump_so_far, placeless, text_whole}
+use Rattle.vme_judge.specs.Blanks.{AreBlanks, BeginsDump, IsBlankSoFar, ReadsBlanks, SkipsBlanks, TakesBlanks, TakesFirst, TakesFurther, blanks_whole, line_past}
+use Rattle.vme_judge.specs.DumpRuns.{InHeader, IsDumpJudgedAs, TakesDump, dump_at, dump_so_far, text_whole}
 use Rattle.vme_judge.specs.Dumps.{DumpSoFar, Broken}
 use Rattle.vme_judge.specs.DumpTexts.{has_long_blanks, header_judged}
 use Rattle.vme_judge.specs.Runs.{form_after, IsGoing, IsOnceRun}
@@ -42,37 +43,48 @@ pub reader_on : (map : Map) (b : ℕ) (step : Step) (v : VcdReader) → is_space
     → IsHeader map beginning [] v
 reader_on map b step v is takes = (subst (λ out. TakesHeading map out [] step v) (begins_on b is) takes).1
 
+-- the line after one more byte
+pub line_more : (bytes : List ℕ) (i d line next last : ℕ) → i < length bytes → next ≡ line_after (get_or bytes i d) line
+    → line_past (drop i bytes) line ≡ last → line_past (drop (i + 1) bytes) next ≡ last
+line_more bytes i d line next last less is was =
+    ap (line_past (drop (i + 1) bytes)) is ∙ ap (λ bytes. line_past bytes line) (sym (drop_more bytes i d less)) ∙ was
+
 -- blanks before the first word of a header
-header_blanks : (o : Options) (map : Map) (d : DumpSoFar) (ds : List Declaration) (blanks rest : List ℕ) → AreBlanks blanks
-    → header_judged o map d ds (Goes beginning) (blanks ++ rest) ≡ header_judged o map d ds (Goes beginning) rest
-header_blanks o map d ds [] rest are = refl
-header_blanks o map d ds (b ∷ blanks) rest are =
+header_blanks : (o : Options) (map : Map) (d : DumpSoFar) (ds : List Declaration) (line : ℕ) (blanks rest : List ℕ) → AreBlanks blanks
+    → header_judged o map d ds (Goes beginning) line (blanks ++ rest) ≡ header_judged o map d ds (Goes beginning) (line_past blanks line) rest
+header_blanks o map d ds line [] rest are = refl
+header_blanks o map d ds line (b ∷ blanks) rest are =
     let first = blank_first b blanks are in
-    ap (λ out. header_judged o map d ds out (blanks ++ rest)) (begins_on b first.0) ∙ header_blanks o map d ds blanks rest first.1
+    ap (λ out. header_judged o map d ds out (line_after b line) (blanks ++ rest)) (begins_on b first.0)
+    ∙ header_blanks o map d ds (line_after b line) blanks rest first.1
 
 -- a run that has taken blanks has judged nothing
 pub same_dump : (old new : Run) → new.judge ≡ old.judge → new.ports ≡ old.ports → new.rejection ≡ old.rejection → dump_so_far new ≡ dump_so_far old
 same_dump old new judge ports rejection =
-    ap (λ (r : Option Rejection). dump_at (is_some r) (placeless new.judge) new.ports.last) rejection
-    ∙ ap (λ (j : Judge). dump_at (is_some old.rejection) (placeless j) new.ports.last) judge
-    ∙ ap (λ (p : Ports). dump_at (is_some old.rejection) (placeless old.judge) p.last) ports
+    ap (λ (r : Option Rejection). dump_at (is_some r) (standing new.judge) new.ports.last) rejection
+    ∙ ap (λ (j : Judge). dump_at (is_some old.rejection) (standing j) new.ports.last) judge
+    ∙ ap (λ (p : Ports). dump_at (is_some old.rejection) (standing old.judge) p.last) ports
 
 -- the whole header does not depend on them
-text_same : (map : Map) (old new : Run) (rest : List ℕ) → new.judge ≡ old.judge → new.ports ≡ old.ports → new.rejection ≡ old.rejection
-    → text_whole map old (InHeader beginning []) rest ≡ text_whole map new (InHeader beginning []) rest
-text_same map old new rest judge ports rejection =
+text_same : (map : Map) (old new : Run) (line : ℕ) (rest : List ℕ) → new.judge ≡ old.judge → new.ports ≡ old.ports
+    → new.rejection ≡ old.rejection → new.vcd.line ≡ line
+    → header_judged old.judge.options.now map (dump_so_far old) [] (Goes beginning) line rest ≡ text_whole map new (InHeader beginning []) rest
+text_same map old new line rest judge ports rejection counts =
     sym (
-    ap (λ (j : Judge). header_judged j.options.now map (dump_so_far new) [] (Goes beginning) rest) judge
-    ∙ ap (λ d. header_judged old.judge.options.now map d [] (Goes beginning) rest) (same_dump old new judge ports rejection)
+    ap (λ (j : Judge). header_judged j.options.now map (dump_so_far new) [] (Goes beginning) new.vcd.line rest) judge
+    ∙ ap (λ d. header_judged old.judge.options.now map d [] (Goes beginning) new.vcd.line rest) (same_dump old new judge ports rejection)
+    ∙ ap (λ line. header_judged old.judge.options.now map (dump_so_far old) [] (Goes beginning) line rest) counts
     )
 
 -- the whole dump after blanks
 pub whole_on : (map : Map) (line : List ℕ) (old new : Run) (bytes rest : List ℕ) (reads : ReadsBlanks line old new bytes) → AreBlanks bytes
-    → new.judge ≡ old.judge → new.ports ≡ old.ports → blanks_whole map line old (bytes ++ rest) ≡ blanks_whole map reads.after new rest
-whole_on map line old new bytes rest reads are judge ports =
+    → new.judge ≡ old.judge → new.ports ≡ old.ports → new.vcd.line ≡ line_past bytes old.vcd.line
+    → blanks_whole map line old (bytes ++ rest) ≡ blanks_whole map reads.after new rest
+whole_on map line old new bytes rest reads are judge ports counts =
     ap (λ test. let r : DumpSoFar = if test then Broken else text_whole map old (InHeader beginning []) (bytes ++ rest) in r) (reads.lines rest)
     ∙ ap (λ d. let r : DumpSoFar = if has_long_blanks (length reads.after) rest then Broken else d in r)
-    (header_blanks old.judge.options.now map (dump_so_far old) [] bytes rest are ∙ text_same map old new rest judge ports reads.rejection)
+    (header_blanks old.judge.options.now map (dump_so_far old) [] old.vcd.line bytes rest are
+    ∙ text_same map old new (line_past bytes old.vcd.line) rest judge ports reads.rejection counts)
 
 -- the whole dump, if no blank is left
 pub whole_first : (map : Map) (line : List ℕ) (run : Run) (text rest : List ℕ) → slice_get text 0 ≡ Some 36
@@ -86,13 +98,13 @@ whole_first map line run (b ∷ text) rest first =
 
 module _ (map : Map) (line : List ℕ) (old mid new : Run) (bytes blanks text : List ℕ) where
   -- a run that takes the first bytes of a dump after blanks: the whole of it
-  whole_then : (skips : TakesBlanks line old mid blanks true) → AreBlanks blanks → slice_get text 0 ≡ Some 36 → bytes ≡ blanks ++ text
+  whole_then : (skips : TakesBlanks line old mid blanks true) → mid.vcd.line ≡ line_past blanks old.vcd.line → AreBlanks blanks → slice_get text 0 ≡ Some 36 → bytes ≡ blanks ++ text
       → (rest : List ℕ) → blanks_whole map line old (bytes ++ rest) ≡ text_whole map mid (InHeader beginning []) (text ++ rest)
-  whole_then skips are first parts rest =
+  whole_then skips counts are first parts rest =
       let reads = skips.reads refl in
       ap (λ bytes. blanks_whole map line old (bytes ++ rest)) parts
       ∙ ap (blanks_whole map line old) (append_assoc blanks text rest)
-      ∙ whole_on map line old mid blanks (text ++ rest) reads are skips.judge skips.ports
+      ∙ whole_on map line old mid blanks (text ++ rest) reads are skips.judge skips.ports counts
       ∙ whole_first map reads.after mid text rest first
 
   -- a run that has found nothing before blanks has found nothing after them
@@ -104,30 +116,30 @@ module _ (map : Map) (line : List ℕ) (old mid new : Run) (bytes blanks text : 
       )
 
   -- the first bytes of a dump
-  begun : (goes_on : Bool) (skips : TakesBlanks line old mid blanks true) → AreBlanks blanks → slice_get text 0 ≡ Some 36
-      → bytes ≡ blanks ++ text → TakesDump map mid new (InHeader beginning []) text goes_on → BeginsDump map line old new bytes goes_on
-  begun goes_on skips are first parts takes = record {
+  begun : (goes_on : Bool) (skips : TakesBlanks line old mid blanks true) → mid.vcd.line ≡ line_past blanks old.vcd.line → AreBlanks blanks
+      → slice_get text 0 ≡ Some 36 → bytes ≡ blanks ++ text → TakesDump map mid new (InHeader beginning []) text goes_on → BeginsDump map line old new bytes goes_on
+  begun goes_on skips counts are first parts takes = record {
     reads = λ on.
         let reads = takes.reads on in
         record {
           after = reads.after;
           reading = reads.reading;
           unjudged = λ d was. reads.unjudged d (same_dump old mid skips.judge skips.ports (skips.reads refl).rejection ∙ was);
-          judges = λ rest. whole_then skips are first parts rest ∙ reads.judges rest;
+          judges = λ rest. whole_then skips counts are first parts rest ∙ reads.judges rest;
         };
     stops = λ off rest.
-        subst (λ d. IsDumpJudgedAs d (dump_so_far new) (placeless new.judge)) (sym (whole_then skips are first parts rest)) (takes.stops off rest);
-    stays = λ found fell. takes.stays found (ap (λ j. placeless j) skips.judge ∙ fell);
+        subst (λ d. IsDumpJudgedAs d (dump_so_far new) (standing new.judge)) (sym (whole_then skips counts are first parts rest)) (takes.stops off rest);
+    stays = λ found fell. takes.stays found (ap (λ j. standing j) skips.judge ∙ fell);
     once = λ once going. let had = going_on skips once going in takes.once had.0 had.1;
   }
 
   -- the same by what the calls return
-  pub dump_begun : (on : Bool) (result : Result Bool AllocError) → on ≡ true → TakesBlanks line old mid blanks on → AreBlanks blanks
-      → slice_get text 0 ≡ Some 36 → bytes ≡ blanks ++ text → IfOk result (TakesDump map mid new (InHeader beginning []) text)
+  pub dump_begun : (on : Bool) (result : Result Bool AllocError) → on ≡ true → TakesBlanks line old mid blanks on
+      → mid.vcd.line ≡ line_past blanks old.vcd.line → AreBlanks blanks → slice_get text 0 ≡ Some 36 → bytes ≡ blanks ++ text → IfOk result (TakesDump map mid new (InHeader beginning []) text)
       → IfOk result (BeginsDump map line old new bytes)
-  dump_begun on (Err fault) went skips are first parts takes = tt
-  dump_begun on (Ok goes_on) went skips are first parts takes =
-      begun goes_on (subst (TakesBlanks line old mid blanks) went skips) are first parts takes
+  dump_begun on (Err fault) went skips counts are first parts takes = tt
+  dump_begun on (Ok goes_on) went skips counts are first parts takes =
+      begun goes_on (subst (TakesBlanks line old mid blanks) went skips) counts are first parts takes
 
 -- a run that rejects the blanks before a dump
 pub dump_barred : (map : Map) (line : List ℕ) (old new : Run) (bytes blanks text : List ℕ) (on : Bool) → on ≡ false
@@ -145,7 +157,7 @@ dump_barred map line old new bytes blanks text on off takes parts =
           (stops.lines (text ++ rest))
           )
           );
-      stays = λ found fell. ap (λ j. placeless j) takes.judge ∙ fell;
+      stays = λ found fell. ap (λ j. standing j) takes.judge ∙ fell;
       once = λ once going. (rejects_once old new takes.judge once going, λ on. absurd (false≢true on));
     }
 
@@ -165,6 +177,7 @@ module _ (map : Map) (line : List ℕ) (old new : Run) (kind : Kind) (bytes : Li
   pub skips_formed : SkipsBlanks map line (record old { kind = kind }) new bytes goes_on → SkipsBlanks map line old new bytes goes_on
   skips_formed skips = record {
     reader = skips.reader;
+    counts = skips.counts;
     takes = record {
       judge = skips.takes.judge;
       ports = skips.takes.ports;
@@ -196,11 +209,12 @@ piece_further map line old new bytes kind (Ok goes_on) takes stays is = (stays �
 
 -- a run that has taken blanks, whose reader of a dump has taken them before
 pub blanks_skipped : (map : Map) (line : List ℕ) (old new : Run) (v : VcdReader) (bytes : List ℕ) (result : Result Bool AllocError)
-    → IsHeader map beginning [] v → IfOk result (λ _. new.vcd ≡ v) → IfOk result (TakesBlanks line (record old { vcd = v }) new bytes)
-    → IfOk result (SkipsBlanks map line old new bytes)
-blanks_skipped map line old new v bytes (Err fault) reader same takes = tt
-blanks_skipped map line old new v bytes (Ok goes_on) reader same takes = record {
+    → IsHeader map beginning [] v → v.line ≡ line_past bytes old.vcd.line → IfOk result (λ _. new.vcd ≡ v)
+    → IfOk result (TakesBlanks line (record old { vcd = v }) new bytes) → IfOk result (SkipsBlanks map line old new bytes)
+blanks_skipped map line old new v bytes (Err fault) reader counts same takes = tt
+blanks_skipped map line old new v bytes (Ok goes_on) reader counts same takes = record {
   reader = subst (IsHeader map beginning []) (sym same) reader;
+  counts = ap (λ (v : VcdReader). v.line) same ∙ counts;
   takes = record {
     judge = takes.judge;
     ports = takes.ports;

@@ -11,9 +11,10 @@ use Rattle.vme_vcd_reader.specs.Bodies.{Reading, Shown, before, byte_taken, samp
 use Rattle.vme_vcd_reader.specs.Lines.{bytes_taken, list_of, shown_first}
 use Rattle.vme_vcd_reader.specs.Readers.{IsBrokenText, IsReading, ReportsSample, TakesLine, rows_of}
 use Rattle.vme_judge.specs.declared.run.Run.{Run}
-use Rattle.vme_judge.specs.DumpRuns.{DumpStays, HasReached, InBody, InHeader, IsDumpJudgedAs, IsUnjudged, JudgesDump, Reached, ReadsOn, TakesDump, TakesNext, dump_so_far, placeless, text_whole}
+use Rattle.vme_judge.specs.DumpRuns.{DumpStays, HasReached, InBody, InHeader, IsDumpJudgedAs, IsUnjudged, JudgesDump, Reached, ReadsOn, TakesDump, TakesNext, dump_so_far, text_whole}
 use Rattle.vme_judge.specs.Dumps.{DumpSoFar}
 use Rattle.vme_judge.specs.Runs.{IsGoing, IsOnceRun}
+use Rattle.vme_judge.specs.Standing.{standing}
 use Rattle.vme_judge.proofs.DumpRuns.{all_before, bytes_judged, bytes_rejected, first_before, first_reading, one_before, samples_first}
 
 -- a run has judged bytes of a dump up to those that are left
@@ -50,7 +51,7 @@ reads_more map old mid new reached bytes left line rest to is on = record {
 pub stops_at : (map : Map) (old mid new : Run) (reached : Reached) (bytes left line rest : List ℕ) (to : ReadsTo map old mid reached bytes left) → left ≡ line ++ rest
     → ((more : List ℕ) → JudgesDump map mid new to.after (line ++ more)) → (more : List ℕ) → JudgesDump map old new reached (bytes ++ more)
 stops_at map old mid new reached bytes left line rest to is stops more =
-    subst (λ d. IsDumpJudgedAs d (dump_so_far new) (placeless new.judge))
+    subst (λ d. IsDumpJudgedAs d (dump_so_far new) (standing new.judge))
     (sym (
     to.judges more
     ∙ ap (λ left. text_whole map mid to.after (left ++ more)) is

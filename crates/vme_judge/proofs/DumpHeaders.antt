@@ -1,7 +1,7 @@
 -- The header of a dump, byte by byte, and the body after it.
 use Rattle.std.proofs.Common.{◌≡◌, ◌≢◌, ℕ, Bool, true, false, ◌==◌, ◌||◌, inl, inr, List, [], ◌∷◌, ◌++◌, subst, Option, Some, None, is_some, Result, Ok, Err, IfOk, Bor, refl, ap, sym, ◌∙◌}
 use Rattle.std.specs.Prelude.{if◌then◌else◌}
-use Rattle.std.specs.Option.{option_and_then}
+use Rattle.std.specs.Option.{option_map, option_and_then}
 use Rattle.std.specs.declared.alloc.AllocError.{AllocError}
 use Rattle.vme_line_map.specs.Variables.{Map}
 use Rattle.vme_protocol.specs.declared.port.Port.{Port}
@@ -15,7 +15,7 @@ use Rattle.vme_vcd_reader.specs.declared.reader.Step.TheVariants as steps
 use Rattle.vme_vcd_reader.specs.declared.reader.VcdReader.{VcdReader}
 use Rattle.vme_vcd_reader.specs.declared.table.Row.{Row}
 use Rattle.vme_vcd_reader.specs.declared.variable.Mapped.{Mapped}
-use Rattle.vme_vcd_reader.specs.Bodies.{Reading, Shown, End, before, byte_taken, ends_with, fact_taken, samples_by, samples_of, at_word}
+use Rattle.vme_vcd_reader.specs.Bodies.{Reading, Shown, End, after_byte, before, byte_taken, ends_with, fact_taken, line_after, samples_by, samples_of, at_word}
 use Rattle.vme_vcd_reader.specs.Buses.{bus_after}
 use Rattle.vme_vcd_reader.specs.Headers.{Heading, Outcome, Goes, Declares, Ends, Rejects, byte_read}
 use Rattle.vme_vcd_reader.specs.Levels.{value_of}
@@ -30,12 +30,12 @@ use Rattle.vme_judge.specs.declared.dump.Ports.{Ports}
 use Rattle.vme_judge.specs.declared.options.Options.{Options}
 use Rattle.vme_judge.specs.declared.rejection.Rejection.{Rejection}
 use Rattle.vme_judge.specs.declared.run.Run.{Run}
-use Rattle.vme_judge.specs.DumpRuns.{BeginsBody, EndsHeader, IsDumpJudgedAs, InHeader, InBody, TakesDump, TakesLast, TakesNext, dump_at, dump_so_far, dump_whole, placeless, placeless_of, text_whole}
+use Rattle.vme_judge.specs.DumpRuns.{BeginsBody, EndsHeader, IsDumpJudgedAs, InHeader, InBody, TakesDump, TakesLast, TakesNext, dump_at, dump_so_far, dump_whole, text_whole}
 use Rattle.vme_judge.specs.Dumps.{DumpSoFar, Broken, broken_off, dump_taken, with_presence}
 use Rattle.vme_judge.specs.DumpTexts.{body_judged, headed, header_judged, rows_with}
 use Rattle.vme_judge.specs.Runs.{RunsOnce}
 use Rattle.vme_judge.specs.Standing.{Course, Falls, Found, IsStanding, Stands, course_map, standing}
-use Rattle.vme_judge.proofs.DumpRuns.{dump_rejected, rejected_is, rejects_once}
+use Rattle.vme_judge.proofs.DumpRuns.{dump_rejected, rejected_is}
 
 -- variables with other links
 abbrev relinked : List Row → List Row
@@ -75,7 +75,7 @@ says_relinked rows r (Some says) = fact_relinked rows (at_word r says.0) says.1
 
 -- a byte
 byte_relinked : (rows : List Row) (r : Reading) (b : ℕ) → byte_taken (relinked rows) r b ≡ byte_taken rows r b
-byte_relinked rows r b = says_relinked rows r (byte_says r.awaited r.word b)
+byte_relinked rows r b = ap (option_map (after_byte b)) (says_relinked rows r (byte_says r.awaited r.word b))
 
 -- samples do not depend on links
 samples_relinked : (rows : List Row) (text : List ℕ) (o : Option (Reading × Option Shown))
@@ -88,7 +88,7 @@ samples_relinked rows (b ∷ bs) (Some taken) =
 
 -- a dump at the end of its header, by whether it is rejected
 headed_at : (p : Presence) (rejected : Bool) (c : Course) (ports : List (Option Port))
-    → dump_at rejected (placeless_of (course_map (with_presence p) c)) ports ≡ headed p (dump_at rejected (placeless_of c) ports)
+    → dump_at rejected (course_map (with_presence p) c) ports ≡ headed p (dump_at rejected c ports)
 headed_at p true c ports = refl
 headed_at p false (Falls found) ports = refl
 headed_at p false (Stands m) ports = refl
@@ -98,11 +98,11 @@ module _ (old new : Run) (v : VcdReader) (lines : List (ℕ × Mapped)) (goes_on
   headed_is : v.presence ≡ presence_of lines → BeginsBody (record old { vcd = v }) new goes_on
       → dump_so_far new ≡ headed (presence_of lines) (dump_so_far old)
   headed_is presence begins =
-      ap (λ (r : Option Rejection). dump_at (is_some r) (placeless new.judge) new.ports.last) begins.rejection
-      ∙ ap (λ c. dump_at (is_some old.rejection) (placeless_of c) new.ports.last) begins.judged
-      ∙ ap (λ (ports : Ports). dump_at (is_some old.rejection) (placeless_of (course_map (with_presence v.presence) (standing old.judge))) ports.last)
+      ap (λ (r : Option Rejection). dump_at (is_some r) (standing new.judge) new.ports.last) begins.rejection
+      ∙ ap (λ c. dump_at (is_some old.rejection) c new.ports.last) begins.judged
+      ∙ ap (λ (ports : Ports). dump_at (is_some old.rejection) (course_map (with_presence v.presence) (standing old.judge)) ports.last)
       begins.ports
-      ∙ ap (λ p. dump_at (is_some old.rejection) (placeless_of (course_map (with_presence p) (standing old.judge))) old.ports.last) presence
+      ∙ ap (λ p. dump_at (is_some old.rejection) (course_map (with_presence p) (standing old.judge)) old.ports.last) presence
       ∙ headed_at (presence_of lines) (is_some old.rejection) (standing old.judge) old.ports.last
 
   -- the samples of its body
@@ -114,15 +114,18 @@ module _ (old new : Run) (v : VcdReader) (lines : List (ℕ × Mapped)) (goes_on
       ∙ ap (λ (v : VcdReader). samples_of (rows_of v) r rest) (sym begins.reader)
 
   -- the whole of it
-  body_begun : (rest : List ℕ) → variables_of (rows_of v) ≡ lines → v.presence ≡ presence_of lines
+  body_begun : (line : ℕ) (rest : List ℕ) → v.line ≡ line → variables_of (rows_of v) ≡ lines → v.presence ≡ presence_of lines
       → BeginsBody (record old { vcd = v }) new goes_on
-      → body_judged old.judge.options.now (dump_so_far old) (Ok lines) rest ≡ dump_whole new (opening_of (presence_of lines).busy) rest
-  body_begun rest variables presence begins =
-      ap (dump_taken old.judge.options.now (headed (presence_of lines) (dump_so_far old)))
-      (body_samples (opening_of (presence_of lines).busy) rest variables begins)
-      ∙ ap (λ d. dump_taken old.judge.options.now d (samples_of (rows_of new.vcd) (opening_of (presence_of lines).busy) rest))
+      → body_judged old.judge.options.now (dump_so_far old) (Ok lines) line rest
+      ≡ dump_whole new (opening_of (presence_of lines).busy v.line) rest
+  body_begun line rest same variables presence begins =
+      ap (λ line. body_judged old.judge.options.now (dump_so_far old) (Ok lines) line rest) (sym same)
+      ∙ ap (dump_taken old.judge.options.now (headed (presence_of lines) (dump_so_far old)))
+      (body_samples (opening_of (presence_of lines).busy v.line) rest variables begins)
+      ∙ ap (λ d. dump_taken old.judge.options.now d (samples_of (rows_of new.vcd) (opening_of (presence_of lines).busy v.line) rest))
       (sym (headed_is presence begins))
-      ∙ ap (λ (o : Bor Options). dump_taken o.now (dump_so_far new) (samples_of (rows_of new.vcd) (opening_of (presence_of lines).busy) rest))
+      ∙ ap (λ (o : Bor Options). dump_taken o.now (dump_so_far new)
+      (samples_of (rows_of new.vcd) (opening_of (presence_of lines).busy v.line) rest))
       (sym begins.options)
 
 -- a trace stands with the lines of the header too
@@ -131,10 +134,10 @@ stands_headed p (Stands m) stood = refl
 stands_headed p (Falls found) stood = absurd (cc stood)
 
 -- what was found is found with the lines of the header too
-fell_headed : (p : Presence) (c n : Course) (found : Option Found) → n ≡ course_map (with_presence p) c → placeless_of c ≡ Falls found
-    → placeless_of n ≡ Falls found
+fell_headed : (p : Presence) (c n : Course) (found : Option Found) → n ≡ course_map (with_presence p) c → c ≡ Falls found
+    → n ≡ Falls found
 fell_headed p (Stands m) n found is fell = absurd (cc fell)
-fell_headed p (Falls other) n found is fell = ap placeless_of is ∙ fell
+fell_headed p (Falls other) n found is fell = is ∙ fell
 
 -- a run for one finding that begins with a body
 begins_once : (old new : Run) (v : VcdReader) (goes_on : Bool) → BeginsBody (record old { vcd = v }) new goes_on → RunsOnce old new goes_on
@@ -144,32 +147,35 @@ begins_once old new v goes_on begins = λ once going. (
 )
 
 -- a header that declares a variable goes on with it
-declares_as : (o : Options) (map : Map) (d : DumpSoFar) (ds : List Declaration) (h : Heading) (text : List ℕ)
-    → header_judged o map d ds (Declares h) text ≡ header_judged o map d (ds ++ declaration h ∷ []) (Goes h) text
-declares_as o map d ds h [] = refl
-declares_as o map d ds h (b ∷ bs) = refl
+declares_as : (o : Options) (map : Map) (d : DumpSoFar) (ds : List Declaration) (h : Heading) (line : ℕ) (text : List ℕ)
+    → header_judged o map d ds (Declares h) line text ≡ header_judged o map d (ds ++ declaration h ∷ []) (Goes h) line text
+declares_as o map d ds h line [] = refl
+declares_as o map d ds h line (b ∷ bs) = refl
 
 -- the same header of the same dump
-header_same : (o p : Options) (map : Map) (d e : DumpSoFar) (ds : List Declaration) (out : Outcome) (text : List ℕ) → p ≡ o → e ≡ d
-    → header_judged o map d ds out text ≡ header_judged p map e ds out text
-header_same o p map d e ds out text options dump =
-    ap (λ o. header_judged o map d ds out text) (sym options) ∙ ap (λ d. header_judged p map d ds out text) (sym dump)
+header_same : (o p : Options) (map : Map) (d e : DumpSoFar) (ds : List Declaration) (out : Outcome) (line now : ℕ) (text : List ℕ) → p ≡ o
+    → e ≡ d → now ≡ line → header_judged o map d ds out line text ≡ header_judged p map e ds out now text
+header_same o p map d e ds out line now text options dump same =
+    ap (λ o. header_judged o map d ds out line text) (sym options) ∙ ap (λ d. header_judged p map d ds out line text) (sym dump)
+    ∙ ap (λ line. header_judged p map e ds out line text) (sym same)
 
 module _ (map : Map) (old new : Run) (v : VcdReader) (h : Heading) (ds : List Declaration) (byte : ℕ) (goes_on : Bool) where
   -- a run that goes on with a header
   heading_goes : (next : Heading) (all : List Declaration) → ((rest : List ℕ) → header_judged old.judge.options.now map (dump_so_far old) ds
-      (byte_read h byte) rest ≡ header_judged old.judge.options.now map (dump_so_far old) all (Goes next) rest)
-      → IsHeader map next all v → TakesNext (record old { vcd = v }) new None goes_on → goes_on ≡ true
-      → TakesDump map old new (InHeader h ds) (byte ∷ []) goes_on
-  heading_goes next all same header takes on = record {
+      (byte_read h byte) (line_after byte old.vcd.line) rest
+      ≡ header_judged old.judge.options.now map (dump_so_far old) all (Goes next) (line_after byte old.vcd.line) rest)
+      → IsHeader map next all v → v.line ≡ line_after byte old.vcd.line → TakesNext (record old { vcd = v }) new None goes_on
+      → goes_on ≡ true → TakesDump map old new (InHeader h ds) (byte ∷ []) goes_on
+  heading_goes next all same header line takes on = record {
     reads = λ _. record {
       after = InHeader next all;
       reading = subst (IsHeader map next all) (sym takes.reader) header;
       unjudged = λ d was. takes.dump ∙ was;
       judges = λ rest.
           same rest
-          ∙ header_same old.judge.options.now new.judge.options.now map (dump_so_far old) (dump_so_far new) all (Goes next) rest
-          (ap (λ (o : Bor Options). o.now) takes.options) takes.dump;
+          ∙ header_same old.judge.options.now new.judge.options.now map (dump_so_far old) (dump_so_far new) all (Goes next)
+          (line_after byte old.vcd.line) new.vcd.line rest (ap (λ (o : Bor Options). o.now) takes.options) takes.dump
+          (ap (λ (v : VcdReader). v.line) takes.reader ∙ line);
     };
     stops = λ off. absurd (cc (off, on));
     stays = takes.stays;
@@ -178,17 +184,18 @@ module _ (map : Map) (old new : Run) (v : VcdReader) (h : Heading) (ds : List De
 
   -- a run that begins with the body, by the lines that it has
   heading_ends : (lines : Result (List (ℕ × Mapped)) VcdFault) → byte_read h byte ≡ Ends → lines_of map ds ≡ lines → EntersBody lines v
-      → BeginsBody (record old { vcd = v }) new goes_on → TakesDump map old new (InHeader h ds) (byte ∷ []) goes_on
-  heading_ends (Err fault) ends is enters begins = absurd enters
-  heading_ends (Ok lines) ends is enters begins = record {
+      → v.line ≡ line_after byte old.vcd.line → BeginsBody (record old { vcd = v }) new goes_on
+      → TakesDump map old new (InHeader h ds) (byte ∷ []) goes_on
+  heading_ends (Err fault) ends is enters line begins = absurd enters
+  heading_ends (Ok lines) ends is enters line begins = record {
     reads = λ _. record {
-      after = InBody (opening_of (presence_of lines).busy);
-      reading = subst (IsReading (opening_of (presence_of lines).busy)) (sym begins.reader) enters.2;
+      after = InBody (opening_of (presence_of lines).busy v.line);
+      reading = subst (IsReading (opening_of (presence_of lines).busy v.line)) (sym begins.reader) enters.2;
       unjudged = λ d was. tt;
       judges = λ rest.
-          ap (λ out. header_judged old.judge.options.now map (dump_so_far old) ds out rest) ends
-          ∙ ap (λ lines. body_judged old.judge.options.now (dump_so_far old) lines rest) is
-          ∙ body_begun old new v lines goes_on rest enters.0 enters.1 begins;
+          ap (λ out. header_judged old.judge.options.now map (dump_so_far old) ds out (line_after byte old.vcd.line) rest) ends
+          ∙ ap (λ lines. body_judged old.judge.options.now (dump_so_far old) lines (line_after byte old.vcd.line) rest) is
+          ∙ body_begun old new v lines goes_on (line_after byte old.vcd.line) rest line enters.0 enters.1 begins;
     };
     stops = λ off. absurd (cc (off, begins.goes));
     stays = λ found. fell_headed v.presence (standing old.judge) (standing new.judge) found begins.judged;
@@ -197,20 +204,22 @@ module _ (map : Map) (old new : Run) (v : VcdReader) (h : Heading) (ds : List De
 
 -- a run that takes a byte of a header, by what becomes of it
 heading_by : (map : Map) (old new : Run) (v : VcdReader) (h : Heading) (ds : List Declaration) (byte : ℕ) (step : Step) (out : Outcome)
-    (goes_on : Bool) → byte_read h byte ≡ out → TakesHeading map out ds step v
+    (goes_on : Bool) → byte_read h byte ≡ out → TakesHeading map out ds step v → v.line ≡ line_after byte old.vcd.line
     → ((shown : Option Shown) → ReportsSample shown step v → TakesNext (record old { vcd = v }) new shown goes_on)
     → (step ≡ steps.Header → BeginsBody (record old { vcd = v }) new goes_on) → (step ≡ steps.More → goes_on ≡ true)
     → TakesDump map old new (InHeader h ds) (byte ∷ []) goes_on
-heading_by map old new v h ds byte step (Goes next) goes_on is takes sample begins more =
+heading_by map old new v h ds byte step (Goes next) goes_on is takes line sample begins more =
     heading_goes map old new v h ds byte goes_on next ds
-    (λ rest. ap (λ out. header_judged old.judge.options.now map (dump_so_far old) ds out rest) is) takes.1 (sample None takes.0) (more takes.0)
-heading_by map old new v h ds byte step (Declares next) goes_on is takes sample begins more =
+    (λ rest. ap (λ out. header_judged old.judge.options.now map (dump_so_far old) ds out (line_after byte old.vcd.line) rest) is) takes.1 line
+    (sample None takes.0) (more takes.0)
+heading_by map old new v h ds byte step (Declares next) goes_on is takes line sample begins more =
     heading_goes map old new v h ds byte goes_on next (ds ++ declaration next ∷ [])
-    (λ rest. ap (λ out. header_judged old.judge.options.now map (dump_so_far old) ds out rest) is
-    ∙ declares_as old.judge.options.now map (dump_so_far old) ds next rest) takes.1 (sample None takes.0) (more takes.0)
-heading_by map old new v h ds byte step Ends goes_on is takes sample begins more =
-    heading_ends map old new v h ds byte goes_on (lines_of map ds) is refl takes.1 (begins takes.0)
-heading_by map old new v h ds byte step (Rejects fault) goes_on is takes sample begins more = absurd takes
+    (λ rest. ap (λ out. header_judged old.judge.options.now map (dump_so_far old) ds out (line_after byte old.vcd.line) rest) is
+    ∙ declares_as old.judge.options.now map (dump_so_far old) ds next (line_after byte old.vcd.line) rest) takes.1 line
+    (sample None takes.0) (more takes.0)
+heading_by map old new v h ds byte step Ends goes_on is takes line sample begins more =
+    heading_ends map old new v h ds byte goes_on (lines_of map ds) is refl takes.1 line (begins takes.0)
+heading_by map old new v h ds byte step (Rejects fault) goes_on is takes line sample begins more = absurd takes
 
 -- a dump that is rejected within its header
 broken_header : (rejected : Bool) (c n : Course) (ports : List (Option Port)) → n ≡ c
@@ -221,20 +230,20 @@ broken_header false (Stands m) n ports same = inl refl
 
 -- a run that rejects a header
 header_rejected : (old new : Run) (whole : DumpSoFar) → whole ≡ broken_off (dump_so_far old) → is_some new.rejection ≡ true
-    → new.judge ≡ old.judge → IsDumpJudgedAs whole (dump_so_far new) (placeless new.judge)
+    → new.judge ≡ old.judge → IsDumpJudgedAs whole (dump_so_far new) (standing new.judge)
 header_rejected old new whole is rejected judge =
-    subst (λ whole. IsDumpJudgedAs whole (dump_so_far new) (placeless new.judge)) (sym is)
-    (subst (λ d. IsDumpJudgedAs (broken_off (dump_so_far old)) d (placeless new.judge)) (sym (rejected_is new rejected))
-    (broken_header (is_some old.rejection) (placeless old.judge) (placeless new.judge) old.ports.last (ap (λ j. placeless j) judge)))
+    subst (λ whole. IsDumpJudgedAs whole (dump_so_far new) (standing new.judge)) (sym is)
+    (subst (λ d. IsDumpJudgedAs (broken_off (dump_so_far old)) d (standing new.judge)) (sym (rejected_is new rejected))
+    (broken_header (is_some old.rejection) (standing old.judge) (standing new.judge) old.ports.last (ap (λ j. standing j) judge)))
 
 -- why a header is rejected: whatever follows, the text is no dump
-broken_by : (o : Options) (map : Map) (d : DumpSoFar) (ds : List Declaration) (out : Outcome) (fault : VcdFault) (rest : List ℕ)
-    → IsHeadingFault out (lines_of map ds) fault → fault ≢ Memory → header_judged o map d ds out rest ≡ broken_off d
-broken_by o map d ds (Goes h) fault rest is why = absurd (why is)
-broken_by o map d ds (Declares h) fault rest is why = absurd (why is)
-broken_by o map d ds (Rejects f) fault rest is why = refl
-broken_by o map d ds Ends fault rest (inl is) why = absurd (why is)
-broken_by o map d ds Ends fault rest (inr is) why = ap (λ lines. body_judged o d lines rest) is
+broken_by : (o : Options) (map : Map) (d : DumpSoFar) (ds : List Declaration) (out : Outcome) (fault : VcdFault) (line : ℕ)
+    (rest : List ℕ) → IsHeadingFault out (lines_of map ds) fault → fault ≢ Memory → header_judged o map d ds out line rest ≡ broken_off d
+broken_by o map d ds (Goes h) fault line rest is why = absurd (why is)
+broken_by o map d ds (Declares h) fault line rest is why = absurd (why is)
+broken_by o map d ds (Rejects f) fault line rest is why = refl
+broken_by o map d ds Ends fault line rest (inl is) why = absurd (why is)
+broken_by o map d ds Ends fault line rest (inr is) why = ap (λ lines. body_judged o d lines line rest) is
 
 -- a run that rejects a byte of a header
 pub heading_rejected : (map : Map) (old new : Run) (h : Heading) (ds : List Declaration) (byte : ℕ) (fault : VcdFault)
@@ -245,17 +254,17 @@ heading_rejected map old new h ds byte fault (Err failed) is stops rejected judg
 heading_rejected map old new h ds byte fault (Ok goes_on) is stops rejected judge why =
     dump_rejected map old new (InHeader h ds) (byte ∷ []) goes_on
     (λ rest. header_rejected old new (text_whole map old (InHeader h ds) (byte ∷ rest))
-    (broken_by old.judge.options.now map (dump_so_far old) ds (byte_read h byte) fault rest is why) rejected judge) stops judge
+    (broken_by old.judge.options.now map (dump_so_far old) ds (byte_read h byte) fault (line_after byte old.vcd.line) rest is why) rejected judge) stops judge
 
 -- a run that takes a byte of a header
 pub heading_judged : (map : Map) (old new : Run) (v : VcdReader) (h : Heading) (ds : List Declaration) (byte : ℕ) (step : Step)
-    (result : Result Bool AllocError) → TakesHeading map (byte_read h byte) ds step v
+    (result : Result Bool AllocError) → TakesHeading map (byte_read h byte) ds step v → v.line ≡ line_after byte old.vcd.line
     → ((shown : Option Shown) → ReportsSample shown step v → IfOk result (TakesNext (record old { vcd = v }) new shown))
     → (step ≡ steps.Header → IfOk result (BeginsBody (record old { vcd = v }) new)) → (step ≡ steps.More → IfOk result (λ on. on ≡ true))
     → IfOk result (TakesDump map old new (InHeader h ds) (byte ∷ []))
-heading_judged map old new v h ds byte step (Err failed) takes sample begins more = tt
-heading_judged map old new v h ds byte step (Ok goes_on) takes sample begins more =
-    heading_by map old new v h ds byte step (byte_read h byte) goes_on refl takes sample begins more
+heading_judged map old new v h ds byte step (Err failed) takes line sample begins more = tt
+heading_judged map old new v h ds byte step (Ok goes_on) takes line sample begins more =
+    heading_by map old new v h ds byte step (byte_read h byte) goes_on refl takes line sample begins more
 
 -- a run that ends within a header
 pub header_ended : (old new : Run) (v : VcdReader) (result : Result (Unit {0}) AllocError)
@@ -265,12 +274,4 @@ header_ended old new v (Ok value) takes = record {
   dump = inl takes.dump;
   stays = takes.stays;
   once = takes.once;
-}
-
--- a run that rejects a header that ends here
-pub header_refused : (old new : Run) → is_some new.rejection ≡ true → new.judge ≡ old.judge → EndsHeader old new
-header_refused old new rejected judge = record {
-  dump = inr (rejected_is new rejected);
-  stays = λ found fell. ap (λ j. placeless j) judge ∙ fell;
-  once = rejects_once old new judge;
 }

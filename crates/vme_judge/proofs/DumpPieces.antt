@@ -20,8 +20,8 @@ use Rattle.vme_judge.specs.declared.rejection.Rejection.{Rejection}
 use Rattle.vme_judge.specs.declared.run.Kind.{Kind}
 use Rattle.vme_judge.specs.declared.run.Kind.TheVariants as kinds
 use Rattle.vme_judge.specs.declared.run.Run.{Run}
-use Rattle.vme_judge.specs.Blanks.{AreBlanks, IsBlankSoFar, TakesFirst, TakesFurther, blanks_whole}
-use Rattle.vme_judge.specs.DumpRuns.{EndsDump, EndsHeader, HasReached, InBody, InHeader, IsDumpJudgedAs, IsUnjudged, Reached, TakesDump, TakesPiece, dump_at, dump_so_far, placeless, text_whole}
+use Rattle.vme_judge.specs.Blanks.{AreBlanks, IsAtStart, IsBlankSoFar, TakesFirst, TakesFurther, blanks_whole}
+use Rattle.vme_judge.specs.DumpRuns.{EndsDump, EndsHeader, HasReached, InBody, InHeader, IsDumpJudgedAs, IsUnjudged, Reached, TakesDump, TakesPiece, dump_at, dump_so_far, text_whole}
 use Rattle.vme_judge.specs.Dumps.{DumpSoFar, Legal, Illegal, Broken, broken_off, dump_status, is_illegal}
 use Rattle.vme_judge.specs.DumpTexts.{IsDumpStatusOf, dump_of, has_long_blanks, header_judged}
 use Rattle.vme_judge.specs.Openings.{opening}
@@ -31,7 +31,6 @@ use Rattle.vme_judge.specs.Verdicts.{is_log}
 use Rattle.vme_judge.proofs.Blanks.{fresh}
 use Rattle.vme_judge.proofs.DumpBlanks.{going_on, same_dump, whole_on}
 use Rattle.vme_judge.proofs.DumpRuns.{rejected_is}
-use Rattle.vme_judge.proofs.Dumps.{placeless_stands}
 use Rattle.vme_judge.proofs.Pieces.{form_on, log_form}
 
 -- bytes of a dump whose form was known
@@ -83,19 +82,20 @@ is_dump kinds.Unknown is = absurd (cc is)
 -- a run before the first byte
 pub dump_begins : (o : Options) (map : Map) (boards : List Board) (whole : Option (List ℕ)) (run : Run)
     → dump_so_far run ≡ unjudged o boards → IsGoing run → run.judge.options.now ≡ o → run.judge.found ≡ 0
-    → IsHeader map beginning [] run.vcd → run.log.line ≡ [] → run.kind ≡ kinds.Unknown → DumpBetween o map boards whole whole run
+    → IsAtStart map run.vcd → run.log.line ≡ [] → run.kind ≡ kinds.Unknown → DumpBetween o map boards whole whole run
 unfolding dump_of
 dump_begins o map boards None run opens going options found header line kind = tt
-dump_begins o map boards (Some text) run opens going options found header line kind = λ dump. inl (record {
+dump_begins o map boards (Some text) run opens going options found start line kind = λ dump. inl (record {
   kind = kind;
   form = is_dump (form_after kinds.Unknown text) (sym (log_form text) ∙ dump);
   line = [];
-  blanks = record { reader = header; begin = fresh run.log line };
+  blanks = record { reader = start.0; begin = fresh run.log line };
   none = opens;
   judged =
       ap (λ d. let r : DumpSoFar = if has_long_blanks 0 text then Broken else d in r) (
-      ap (λ d. header_judged o map d [] (Goes beginning) text) (sym opens)
-      ∙ ap (λ o. header_judged o map (dump_so_far run) [] (Goes beginning) text) (sym options)
+      ap (λ d. header_judged o map d [] (Goes beginning) 1 text) (sym opens)
+      ∙ ap (λ o. header_judged o map (dump_so_far run) [] (Goes beginning) 1 text) (sym options)
+      ∙ ap (λ line. header_judged run.judge.options.now map (dump_so_far run) [] (Goes beginning) line text) (sym start.1)
       );
   once = λ one. (((ap (λ (o : Options). o.limit) options ∙ one, found), λ none. going.1), going);
 })
@@ -204,7 +204,7 @@ module _ (o : Options) (map : Map) (boards : List Board) (run new : Run) (text r
         line = reads.after;
         blanks = record { reader = takes.1.reader; begin = reads.begin };
         none = same_dump run new skips.judge skips.ports reads.rejection ∙ is.none;
-        judged = is.judged ∙ ap (blanks_whole map is.line run) same ∙ whole_on map is.line run new piece next reads are skips.judge skips.ports;
+        judged = is.judged ∙ ap (blanks_whole map is.line run) same ∙ whole_on map is.line run new piece next reads are skips.judge skips.ports takes.1.counts;
         once = λ one.
             let was = is.once one in
             going_on map is.line run new new piece piece piece skips was.0 was.1;
@@ -254,17 +254,17 @@ found_any rejected c found ports fell = ap (λ c. dump_status (dump_at rejected 
 
 -- the status of a run is that of the dump that it has judged
 status_is : (o : Options) (map : Map) (boards : List Board) (text : List ℕ) (run : Run) (status : Status)
-    → IsDumpJudgedAs (dump_of o map boards text) (dump_so_far run) (placeless run.judge) → (o.limit ≡ 1 → IsOnceRun run)
+    → IsDumpJudgedAs (dump_of o map boards text) (dump_so_far run) (standing run.judge) → (o.limit ≡ 1 → IsOnceRun run)
     → status ≡ dump_status (dump_so_far run) → IsDumpStatusOf o map boards text status
 status_is o map boards text run status (inl same) once is = inl (is ∙ ap dump_status same)
 status_is o map boards text run status (inr found) once is =
-    let any = is ∙ found_any (is_some run.rejection) (placeless run.judge) found.0 run.ports.last found.2 in
+    let any = is ∙ found_any (is_some run.rejection) (standing run.judge) found.0 run.ports.last found.2 in
     elim (cases_Bool (o.limit == 1)) [
       | inl one ↦
           inl (
           any
           ∙ ap (λ (r : Option Rejection). dump_status (dump_at (is_some r) (Falls found.0) []))
-          ((once (eqb-true o.limit 1 one)).1 (sym (placeless_stands (standing run.judge)) ∙ ap stands found.2))
+          ((once (eqb-true o.limit 1 one)).1 (ap stands found.2))
           ∙ sym (ap dump_status found.1)
           )
       | inr more ↦
@@ -277,7 +277,7 @@ piece_stops : (o : Options) (map : Map) (boards : List Board) (run new : Run) (t
     → status ≡ dump_status (dump_so_far new) → IsDumpStatusOf o map boards text status
 piece_stops o map boards run new text rest piece next status is same takes says =
     status_is o map boards text new status
-    (subst (λ d. IsDumpJudgedAs d (dump_so_far new) (placeless new.judge)) (sym (is.judged ∙ ap (text_whole map run is.reached) same))
+    (subst (λ d. IsDumpJudgedAs d (dump_so_far new) (standing new.judge)) (sym (is.judged ∙ ap (text_whole map run is.reached) same))
     (takes.1.stops refl next))
     (λ one. let had = is.once one in (takes.1.once had.0 had.1).0) says
 
@@ -286,7 +286,7 @@ module _ (o : Options) (map : Map) (boards : List Board) (run new : Run) (text r
   first_stops : TakesFirst map is.line run new piece false → status ≡ dump_status (dump_so_far new) → IsDumpStatusOf o map boards text status
   first_stops takes says =
       status_is o map boards text new status
-      (subst (λ d. IsDumpJudgedAs d (dump_so_far new) (placeless new.judge)) (sym (is.judged ∙ ap (blanks_whole map is.line run) same))
+      (subst (λ d. IsDumpJudgedAs d (dump_so_far new) (standing new.judge)) (sym (is.judged ∙ ap (blanks_whole map is.line run) same))
       (takes.1.stops refl next))
       (λ one. let had = is.once one in (takes.1.once had.0 had.1).0) says
 
@@ -362,7 +362,7 @@ ended_by o map boards text run new status (InHeader h ds) reading none judged on
 ended_by o map boards text run new status (InBody r) reading none judged once header body says =
     let ends = body r reading in
     status_is o map boards text new status
-    (subst (λ d. IsDumpJudgedAs d (dump_so_far new) (placeless new.judge)) (sym judged) ends.judges)
+    (subst (λ d. IsDumpJudgedAs d (dump_so_far new) (standing new.judge)) (sym judged) ends.judges)
     (λ one. let had = once one in ends.once had.0 had.1) says
 
 -- the end of a text, before a dump or within it

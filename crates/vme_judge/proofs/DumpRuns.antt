@@ -9,17 +9,15 @@ use Rattle.vme_vcd_reader.specs.declared.reader.Step.TheVariants as steps
 use Rattle.vme_vcd_reader.specs.declared.reader.VcdReader.{VcdReader}
 use Rattle.vme_vcd_reader.specs.declared.table.Row.{Row}
 use Rattle.vme_vcd_reader.specs.Bodies.{Reading, Shown, Samples, Sample, End, Broken as BrokenBody, before, byte_taken, samples_by, samples_of}
-use Rattle.vme_vcd_reader.specs.Ports.{without_changes}
 use Rattle.vme_vcd_reader.specs.Lines.{list_of, shown_first}
-use Rattle.vme_vcd_reader.specs.Readers.{IsReading, ReportsLast, ReportsSample, TakesRead, rows_of, samples_left}
+use Rattle.vme_vcd_reader.specs.Readers.{IsReading, ReportsLast, ReportsSample, TakesRead, rows_of, samples_left, shown_last}
 use Rattle.vme_judge.specs.declared.dump.Ports.{Ports}
 use Rattle.vme_judge.specs.declared.judge.Judge.{Judge}
 use Rattle.vme_judge.specs.declared.options.Options.{Options}
 use Rattle.vme_judge.specs.declared.run.Run.{Run}
-use Rattle.vme_judge.specs.DumpRuns.{EndsDump, EndsOnce, IsDumpJudgedAs, JudgesDump, Reached, InBody, TakesDump, TakesLast, TakesNext, TakesShown, dump_at, dump_so_far, dump_whole, next_if, placeless, placeless_of, shown_by}
+use Rattle.vme_judge.specs.DumpRuns.{EndsDump, EndsOnce, IsDumpJudgedAs, JudgesDump, Reached, InBody, TakesDump, TakesLast, TakesNext, TakesShown, dump_at, dump_so_far, dump_whole, next_if, shown_by}
 use Rattle.vme_judge.specs.Dumps.{DumpSoFar, Legal, Illegal, Broken, dump_by, dump_taken, next_shown}
 use Rattle.vme_judge.specs.Standing.{Course, Falls, Found, HasFallen, Standing, Stands, standing, stands, IsOnce}
-use Rattle.vme_judge.proofs.Dumps.{placeless_stands}
 
 -- an illegal dump has fallen
 dump_fell : (c : Course) (ports : List (Option Port)) (found : Option Found) → dump_by c ports ≡ Illegal found → c ≡ Falls found
@@ -39,8 +37,8 @@ next_fell o s c n last next is found fell = dump_fell n next found (is ∙ ap (�
 
 -- a dump before its first sample
 pub dump_opens : (c : Course) (opened : Standing) (ports : List (Option Port)) → c ≡ Stands opened → ports ≡ replicate 21 None
-    → dump_by (placeless_of c) ports ≡ Legal opened (replicate 21 None)
-dump_opens c opened ports is none = ap (λ c. dump_by (placeless_of c) ports) is ∙ ap (Legal opened) none
+    → dump_by c ports ≡ Legal opened (replicate 21 None)
+dump_opens c opened ports is none = ap (λ c. dump_by c ports) is ∙ ap (Legal opened) none
 
 -- a run that takes a sample
 pub shown_next : (old : Run) (judge : Judge) (ports : Ports) (s : Shown) (result : Result Bool AllocError)
@@ -48,11 +46,11 @@ pub shown_next : (old : Run) (judge : Judge) (ports : Ports) (s : Shown) (result
     → IfOk result (TakesNext old (record old { judge = judge; ports = ports }) (Some s))
 shown_next old judge ports s (Err fault) takes = tt
 shown_next old judge ports s (Ok goes_on) takes = record {
-  dump = next_at old.judge.options.now s (is_some old.rejection) (placeless old.judge) (placeless judge) old.ports.last ports.last takes.dump;
+  dump = next_at old.judge.options.now s (is_some old.rejection) (standing old.judge) (standing judge) old.ports.last ports.last takes.dump;
   reader = refl;
   options = takes.options;
   stops = takes.stops;
-  stays = next_fell old.judge.options.now s (placeless old.judge) (placeless judge) old.ports.last ports.last takes.dump;
+  stays = next_fell old.judge.options.now s (standing old.judge) (standing judge) old.ports.last ports.last takes.dump;
   once = λ once going.
       let had = takes.once once.0 going.0 in
       ((had.0, λ none. going.1), λ goes. (had.1 goes, going.1));
@@ -61,10 +59,11 @@ shown_next old judge ports s (Ok goes_on) takes = record {
 -- the sample that a reader reports
 reports_is : (s : Shown) (step : Step) (v : VcdReader) → ReportsSample (Some s) step v → shown_by v ≡ s
 reports_is s step v is =
-    ap (λ x. let r : Shown = record { time = x; lines = v.bus; changed = v.sample_is_changed; ports = v.sample_ports } in r) is.1
-    ∙ ap (λ x. let r : Shown = record { time = s.time; lines = x; changed = v.sample_is_changed; ports = v.sample_ports } in r) is.2
-    ∙ ap (λ x. let r : Shown = record { time = s.time; lines = s.lines; changed = x; ports = v.sample_ports } in r) is.3
-    ∙ ap (λ x. let r : Shown = record { time = s.time; lines = s.lines; changed = s.changed; ports = x } in r) is.4
+    ap (λ time. record (shown_by v) { time = time }) is.1
+    ∙ ap (λ lines. record (shown_by v) { time = s.time; lines = lines }) is.2
+    ∙ ap (λ changed. record (shown_by v) { time = s.time; lines = s.lines; changed = changed }) is.3
+    ∙ ap (λ ports. record (shown_by v) { time = s.time; lines = s.lines; changed = s.changed; ports = ports }) is.4
+    ∙ ap (λ line. record s { line = line }) is.5
 
 -- a run that takes no sample
 pub next_nothing : (run : Run) (step : Step) (shown : Option Shown) → step ≡ steps.More → ReportsSample shown step run.vcd
@@ -138,7 +137,7 @@ over_at o false (Falls found) ports (Sample s samples) fell = over_at o false (F
 -- a run that has found something is over
 over : (o : Options) (run : Run) (samples : Samples) → HasFallen (standing run.judge) → dump_taken o (dump_so_far run) samples ≡ dump_so_far run
 over o run samples fell =
-    over_at o (is_some run.rejection) (placeless run.judge) run.ports.last samples (placeless_stands (standing run.judge) ∙ fell)
+    over_at o (is_some run.rejection) (standing run.judge) run.ports.last samples fell
 
 -- what is left of a dump, by what is read of it
 whole_same : (o p : Options) (d e : DumpSoFar) (rows all : List Row) (after : Reading) (rest : List ℕ) → p ≡ o → e ≡ d → all ≡ rows
@@ -176,7 +175,7 @@ module _ (map : Map) (old new : Run) (v : VcdReader) (r after : Reading) (bytes 
       judges = λ rest. whole_judged old new v r after bytes shown goes_on rest (says rest) rows takes;
     };
     stops = λ off rest.
-        judged_as (dump_whole old r (bytes ++ rest)) (dump_whole new after rest) (dump_so_far new) (placeless new.judge)
+        judged_as (dump_whole old r (bytes ++ rest)) (dump_whole new after rest) (dump_so_far new) (standing new.judge)
         (whole_judged old new v r after bytes shown goes_on rest (says rest) rows takes)
         (over new.judge.options.now new (samples_of (rows_of new.vcd) after rest) (takes.stops off));
     stays = takes.stays;
@@ -211,15 +210,15 @@ broken_at o false (Stands m) n ports samples is same = inl (sym (ap (dump_taken 
 
 -- a run that has rejected a dump
 pub rejected_is : (run : Run) → is_some run.rejection ≡ true → dump_so_far run ≡ Broken
-rejected_is run is = ap (λ rejected. dump_at rejected (placeless run.judge) run.ports.last) is
+rejected_is run is = ap (λ rejected. dump_at rejected (standing run.judge) run.ports.last) is
 
 -- a run that rejects a body
 pub body_rejected : (old new : Run) (r : Reading) (text : List ℕ) → samples_of (rows_of old.vcd) r text ≡ BrokenBody
-    → is_some new.rejection ≡ true → new.judge ≡ old.judge → IsDumpJudgedAs (dump_whole old r text) (dump_so_far new) (placeless new.judge)
+    → is_some new.rejection ≡ true → new.judge ≡ old.judge → IsDumpJudgedAs (dump_whole old r text) (dump_so_far new) (standing new.judge)
 body_rejected old new r text broken rejected judge =
-    subst (λ d. IsDumpJudgedAs (dump_whole old r text) d (placeless new.judge)) (sym (rejected_is new rejected))
-    (broken_at old.judge.options.now (is_some old.rejection) (placeless old.judge) (placeless new.judge) old.ports.last
-    (samples_of (rows_of old.vcd) r text) broken (ap (λ j. placeless j) judge))
+    subst (λ d. IsDumpJudgedAs (dump_whole old r text) d (standing new.judge)) (sym (rejected_is new rejected))
+    (broken_at old.judge.options.now (is_some old.rejection) (standing old.judge) (standing new.judge) old.ports.last
+    (samples_of (rows_of old.vcd) r text) broken (ap (λ j. standing j) judge))
 
 -- a run for one finding that has found nothing, and rejects a dump
 pub rejects_once : (old new : Run) → new.judge ≡ old.judge → EndsOnce old new
@@ -233,7 +232,7 @@ pub dump_rejected : (map : Map) (old new : Run) (reached : Reached) (bytes : Lis
 dump_rejected map old new reached bytes goes_on judges stops judge = record {
   reads = λ on. absurd (false≢true (sym stops ∙ on));
   stops = λ off. judges;
-  stays = λ found fell. ap (λ j. placeless j) judge ∙ fell;
+  stays = λ found fell. ap (λ j. standing j) judge ∙ fell;
   once = λ once going. (rejects_once old new judge once going, λ on. absurd (false≢true (sym stops ∙ on)));
 }
 
@@ -249,8 +248,7 @@ bytes_rejected map old new r bytes (Ok goes_on) broken stops rejected judge =
 -- the last of the samples that are left at the end of a text is none
 last_left : (v : VcdReader) (begun : Bool) (s : Shown) (samples : Samples) → v.is_begun ≡ begun → samples_left v ≡ Sample s samples → samples ≡ End
 last_left v true s samples is left =
-    let one : Sample (record { time = v.time; lines = without_changes v.bus; changed = v.is_changed; ports = v.bus.changed_ports }) End
-    ≡ Sample s samples = rw is at left in
+    let one : Sample (shown_last v) End ≡ Sample s samples = rw is at left in
     cc one
 last_left v false s samples is left = absurd (let none : End ≡ Sample s samples = rw is at left in cc none)
 
@@ -330,13 +328,4 @@ ended_as old new v r (Ok value) takes = record {
   judges = inl takes.dump;
   stays = takes.stays;
   once = takes.once;
-}
-
--- a run that rejects a body that ends here
-pub ended_broken : (old new : Run) (r : Reading) → samples_of (rows_of old.vcd) r [] ≡ BrokenBody → is_some new.rejection ≡ true
-    → new.judge ≡ old.judge → EndsDump old new r
-ended_broken old new r broken rejected judge = record {
-  judges = body_rejected old new r [] broken rejected judge;
-  stays = λ found fell. ap (λ j. placeless j) judge ∙ fell;
-  once = rejects_once old new judge;
 }

@@ -6,15 +6,17 @@ use Rattle.std.proofs.lemmas.Bool.{false≢true}
 use Rattle.vme_protocol.specs.declared.port.Port.{Port}
 use Rattle.vme_protocol.specs.declared.sample.Sample.{Sample}
 use Rattle.vme_vcd_reader.specs.declared.bus.BusLines.{BusLines}
+use Rattle.vme_vcd_reader.specs.declared.control.ControlLine.{ControlLine}
 use Rattle.vme_vcd_reader.specs.Bodies.{Shown}
 use Rattle.vme_vcd_reader.specs.Buses.{sample_of}
 use Rattle.vme_judge.specs.declared.finding.Finding.{Finding}
 use Rattle.vme_judge.specs.declared.judge.Judge.{Judge}
+use Rattle.vme_judge.specs.declared.judge.Spot.{Spot}
 use Rattle.vme_judge.specs.declared.options.Options.{Options}
-use Rattle.vme_judge.specs.DumpRuns.{Takes, TakesShown, placeless, placeless_of}
-use Rattle.vme_judge.specs.Dumps.{DumpSoFar, Legal, dump_by, is_passed, next_shown, passed, ports_after, ports_taken, shown_taken, time_spot}
+use Rattle.vme_judge.specs.DumpRuns.{Takes, TakesShown}
+use Rattle.vme_judge.specs.Dumps.{DumpSoFar, Legal, dump_by, is_passed, next_shown, passed, ports_after, ports_taken, shown_taken, spot_of, undefined_at}
 use Rattle.vme_judge.specs.Standing.{Course, Falls, HasFallen, IsStanding, Standing, Stands, course_map, course_then, sample_taken, standing, standing_of, stands, state_of, KeepsTask}
-use Rattle.vme_judge.proofs.Dumps.{once_kept, placeless_stands, takes_both, takes_first}
+use Rattle.vme_judge.proofs.Dumps.{once_kept, takes_both, takes_first}
 
 -- what is remembered of samples by what is judged of them
 dump_same : (c n : Course) (next ports : List (Option Port)) → c ≡ n → HasFallen c ⊎ (next ≡ ports) → dump_by c next ≡ dump_by n ports
@@ -25,8 +27,8 @@ dump_same (Stands m) n next ports same (inr is) = ap (Legal m) is ∙ ap (λ n. 
 -- a sample that is passed over, by whether something was found
 passed_by : (o : Options) (s : Shown) (ports : List (Option Port)) (found : ℕ) (finding : Option Finding) (m : Standing) (test : Bool)
     → (found == 0) ≡ test → is_passed o s m ≡ true
-    → dump_by (placeless_of (course_map passed (standing_of found finding m))) ports
-    ≡ next_shown o s (dump_by (placeless_of (standing_of found finding m)) ports)
+    → dump_by (course_map passed (standing_of found finding m)) ports
+    ≡ next_shown o s (dump_by (standing_of found finding m) ports)
 passed_by o s ports found finding m false is over = rw is refl
 passed_by o s ports found (Some finding) m true is over = rw is refl
 passed_by o s ports found None m true is over =
@@ -36,9 +38,9 @@ passed_by o s ports found None m true is over =
 -- a sample that is taken, by whether something was found
 shown_by_test : (o : Options) (s : Shown) (last next : List (Option Port)) (n : Course) (found : ℕ) (finding : Option Finding)
     (m : Standing) (test : Bool) → (found == 0) ≡ test → is_passed o s m ≡ false
-    → n ≡ course_then (shown_taken s last) (placeless_of (standing_of found finding m))
+    → n ≡ course_then (shown_taken s last) (standing_of found finding m)
     → HasFallen n ⊎ (next ≡ ports_after s.lines s.ports 0 last)
-    → dump_by n next ≡ next_shown o s (dump_by (placeless_of (standing_of found finding m)) last)
+    → dump_by n next ≡ next_shown o s (dump_by (standing_of found finding m) last)
 shown_by_test o s last next n found finding m false is taken judged kept = rw is (let same = rw is at judged in ap (λ n. dump_by n next) same)
 shown_by_test o s last next n found (Some finding) m true is taken judged kept =
     rw is (let same = rw is at judged in ap (λ n. dump_by n next) same)
@@ -61,7 +63,7 @@ pub shown_passed : (old new : Judge) (last : List (Option Port)) (s : Shown) (is
 unfolding standing
 shown_passed old new last s is_over is this same task = record {
   dump =
-      ap (λ n. dump_by (placeless_of n) last) same
+      ap (λ n. dump_by n last) same
       ∙ passed_by old.options.now s last old.found old.finding (state_of old) (old.found == 0) refl (sym is ∙ this);
   stops = λ stopped. absurd (cc stopped);
   options = task.0;
@@ -81,61 +83,112 @@ pub shown_taken_as : (old new : Judge) (last next : List (Option Port)) (s : Sho
 unfolding standing
 shown_taken_as old new last next s is_over goes_on is this takes after = record {
   dump =
-      shown_by_test old.options.now s last next (placeless new) old.found old.finding (state_of old) (old.found == 0) refl (sym is ∙ this)
+      shown_by_test old.options.now s last next (standing new) old.found old.finding (state_of old) (old.found == 0) refl (sym is ∙ this)
       takes.judged
-      (by_goes (placeless new) next (ports_after s.lines s.ports 0 last) goes_on
-      (λ off. placeless_stands (standing new) ∙ takes.stops off) after);
+      (by_goes (standing new) next (ports_after s.lines s.ports 0 last) goes_on
+      takes.stops after);
   stops = takes.stops;
   options = takes.options;
   once = takes.once;
 }
 
--- the sample that lines show
-shows : (s : Shown) (sample : Sample) (lines : BusLines) (time : ℕ) → sample ≡ sample_of lines time → lines ≡ s.lines → time ≡ s.time
-    → sample ≡ sample_of s.lines s.time
-shows s sample lines time is same now = is ∙ ap (λ lines. sample_of lines time) same ∙ ap (sample_of s.lines) now
+-- what is taken of a sample at which a line may be undefined
+abbrev lines_taken : Shown → Sample → Option ControlLine → Standing → Course
+lines_taken s sample undefined = sample_taken (spot_of s) undefined sample
+
+-- what is taken of the sample that lines show
+abbrev own_taken : Shown → Standing → Course
+own_taken s = lines_taken s (sample_of s.lines s.time) (undefined_at s.lines (sample_of s.lines s.time).undefined)
+
+-- a sample that a reader shows is taken, with what is undefined at it
+taken_own : (old new : Judge) (s : Shown) (sample : Sample) (undefined : Option ControlLine) (goes_on : Bool)
+    → sample ≡ sample_of s.lines s.time → undefined ≡ undefined_at s.lines sample.undefined
+    → Takes old new (lines_taken s sample undefined) goes_on → Takes old new (own_taken s) goes_on
+taken_own old new s sample undefined goes_on shown line takes =
+    subst (λ (sample : Sample). Takes old new (lines_taken s sample (undefined_at s.lines sample.undefined)) goes_on) shown
+    (subst (λ undefined. Takes old new (lines_taken s sample undefined) goes_on) line takes)
 
 -- a sample at which the judgement stops
-pub shown_stopped : (old new : Judge) (last : List (Option Port)) (s : Shown) (sample : Sample) (lines : BusLines) (time : ℕ)
-    (is_over goes_on : Bool) → is_over ≡ is_passed old.options.now s (state_of old) → is_over ≡ false → sample ≡ sample_of lines time
-    → lines ≡ s.lines → time ≡ s.time → Takes old new (sample_taken (time_spot time) None sample) goes_on → goes_on ≡ false
-    → TakesShown old new last last s false
-shown_stopped old new last s sample lines time is_over goes_on is this shown same now takes stopped =
+shown_stopped : (old new : Judge) (last : List (Option Port)) (s : Shown) (sample : Sample) (undefined : Option ControlLine)
+    (is_over goes_on : Bool) → is_over ≡ is_passed old.options.now s (state_of old) → is_over ≡ false
+    → sample ≡ sample_of s.lines s.time → undefined ≡ undefined_at s.lines sample.undefined
+    → Takes old new (lines_taken s sample undefined) goes_on → goes_on ≡ false → TakesShown old new last last s false
+shown_stopped old new last s sample undefined is_over goes_on is this shown line takes stopped =
     shown_taken_as old new last last s is_over false is this
-    (takes_first old new (sample_taken (time_spot s.time) None (sample_of s.lines s.time)) (ports_taken (time_spot s.time) s.lines s.ports 0 last)
-    (subst (λ time. Takes old new (sample_taken (time_spot time) None (sample_of s.lines s.time)) false) now
-    (subst (λ sample. Takes old new (sample_taken (time_spot time) None sample) false) (shows s sample lines time shown same now)
-    (subst (λ goes. Takes old new (sample_taken (time_spot time) None sample) goes) stopped takes))))
+    (takes_first old new (own_taken s) (ports_taken (spot_of s) s.lines s.ports 0 last)
+    (taken_own old new s sample undefined false shown line
+    (subst (λ goes. Takes old new (lines_taken s sample undefined) goes) stopped takes)))
     (λ on. absurd (false≢true on))
 
 -- a sample with its ports
-shown_whole : (old mid new : Judge) (last next : List (Option Port)) (s : Shown) (sample : Sample) (is_over goes_on : Bool)
-    (result : Result Bool AllocError) → is_over ≡ is_passed old.options.now s (state_of old) → is_over ≡ false
-    → sample ≡ sample_of s.lines s.time → Takes old mid (sample_taken (time_spot s.time) None sample) goes_on → goes_on ≡ true
-    → IfOk result (Takes mid new (ports_taken (time_spot s.time) s.lines s.ports 0 last))
+shown_whole : (old mid new : Judge) (last next : List (Option Port)) (s : Shown) (sample : Sample) (undefined : Option ControlLine)
+    (is_over goes_on : Bool) (result : Result Bool AllocError) → is_over ≡ is_passed old.options.now s (state_of old) → is_over ≡ false
+    → sample ≡ sample_of s.lines s.time → undefined ≡ undefined_at s.lines sample.undefined
+    → Takes old mid (lines_taken s sample undefined) goes_on → goes_on ≡ true
+    → IfOk result (Takes mid new (ports_taken (spot_of s) s.lines s.ports 0 last))
     → IfOk result (λ goes_on. goes_on ≡ true → next ≡ ports_after s.lines s.ports 0 last)
     → IfOk result (TakesShown old new last next s)
-shown_whole old mid new last next s sample is_over goes_on (Err fault) is this shown takes goes ports after = tt
-shown_whole old mid new last next s sample is_over goes_on (Ok on) is this shown takes goes ports after =
+shown_whole old mid new last next s sample undefined is_over goes_on (Err fault) is this shown line takes goes ports after = tt
+shown_whole old mid new last next s sample undefined is_over goes_on (Ok on) is this shown line takes goes ports after =
     shown_taken_as old new last next s is_over on is this
-    (takes_both old mid new (sample_taken (time_spot s.time) None (sample_of s.lines s.time))
-    (ports_taken (time_spot s.time) s.lines s.ports 0 last) on
-    (subst (λ sample. Takes old mid (sample_taken (time_spot s.time) None sample) true) shown
-    (subst (λ goes. Takes old mid (sample_taken (time_spot s.time) None sample) goes) goes takes)) ports)
+    (takes_both old mid new (own_taken s) (ports_taken (spot_of s) s.lines s.ports 0 last) on
+    (taken_own old mid s sample undefined true shown line
+    (subst (λ goes. Takes old mid (lines_taken s sample undefined) goes) goes takes)) ports)
     after
 
--- a sample with its ports, as a reader gives them
-pub shown_read : (old mid new : Judge) (last next : List (Option Port)) (s : Shown) (sample : Sample) (lines : BusLines) (time changed : ℕ)
-    (is_over goes_on : Bool) (result : Result Bool AllocError) → is_over ≡ is_passed old.options.now s (state_of old) → is_over ≡ false
-    → sample ≡ sample_of lines time → lines ≡ s.lines → time ≡ s.time → changed ≡ s.ports
-    → Takes old mid (sample_taken (time_spot time) None sample) goes_on
-    → goes_on ≡ true → IfOk result (Takes mid new (ports_taken (time_spot time) lines changed 0 last))
-    → IfOk result (λ goes_on. goes_on ≡ true → next ≡ ports_after lines changed 0 last) → IfOk result (TakesShown old new last next s)
-shown_read old mid new last next s sample lines time changed is_over goes_on result is this shown same now slots takes goes ports after =
-    shown_whole old mid new last next s sample is_over goes_on result is this (shows s sample lines time shown same now)
-    (subst (λ time. Takes old mid (sample_taken (time_spot time) None sample) goes_on) now takes) goes
-    (subst (λ time. IfOk result (Takes mid new (ports_taken (time_spot time) s.lines s.ports 0 last))) now
-    (subst (λ lines. IfOk result (Takes mid new (ports_taken (time_spot time) lines s.ports 0 last))) same
-    (subst (λ changed. IfOk result (Takes mid new (ports_taken (time_spot time) lines changed 0 last))) slots ports)))
-    (subst (λ lines. IfOk result (λ goes_on. goes_on ≡ true → next ≡ ports_after lines s.ports 0 last)) same
-    (subst (λ changed. IfOk result (λ goes_on. goes_on ≡ true → next ≡ ports_after lines changed 0 last)) slots after))
+-- the place of a sample, by its line and time
+spot_is : (s : Shown) (line time : ℕ) (spot : Spot) → spot ≡ record { line = line; time = Some time } → line ≡ s.line → time ≡ s.time → spot ≡ spot_of s
+spot_is s line time spot is on now =
+    is ∙ ap (λ line. let r : Spot = record { line = line; time = Some time } in r) on
+    ∙ ap (λ time. let r : Spot = record { line = s.line; time = Some time } in r) now
+
+-- what a reader gives of a sample
+pub record IsRead (s : Shown) (sample : Sample) (undefined : Option ControlLine) (lines : BusLines) (line time : ℕ) (spot : Spot) : Type 0 where
+  pub shows : sample ≡ sample_of lines time
+  pub names : undefined ≡ undefined_at lines sample.undefined
+  pub place : spot ≡ record { line = line; time = Some time }
+  pub same_lines : lines ≡ s.lines
+  pub same_line : line ≡ s.line
+  pub same_time : time ≡ s.time
+
+-- the same by each of its parts
+pub reads : (s : Shown) (sample : Sample) (undefined : Option ControlLine) (lines : BusLines) (line time : ℕ) → sample ≡ sample_of lines time
+    → undefined ≡ undefined_at lines sample.undefined → lines ≡ s.lines → line ≡ s.line → time ≡ s.time
+    → IsRead s sample undefined lines line time (record { line = line; time = Some time })
+reads s sample undefined lines line time is names same on now =
+    record { shows = is; names = names; place = refl; same_lines = same; same_line = on; same_time = now }
+
+module _ (s : Shown) (sample : Sample) (undefined : Option ControlLine) (lines : BusLines) (line time : ℕ) (spot : Spot) (read : IsRead s sample undefined lines line time spot) where
+  -- the sample that it shows
+  own_sample : sample ≡ sample_of s.lines s.time
+  own_sample = read.shows ∙ ap (λ lines. sample_of lines time) read.same_lines ∙ ap (sample_of s.lines) read.same_time
+
+  -- the line that is undefined at it
+  own_undefined : undefined ≡ undefined_at s.lines sample.undefined
+  own_undefined = read.names ∙ ap (λ lines. undefined_at lines sample.undefined) read.same_lines
+
+  -- its place
+  own_spot : spot ≡ spot_of s
+  own_spot = spot_is s line time spot read.place read.same_line read.same_time
+
+  -- a sample at which the judgement stops, as a reader gives it
+  pub stopped_read : (old new : Judge) (last : List (Option Port)) (is_over goes_on : Bool) → is_over ≡ is_passed old.options.now s (state_of old)
+      → is_over ≡ false → Takes old new (sample_taken spot undefined sample) goes_on → goes_on ≡ false → TakesShown old new last last s false
+  stopped_read old new last is_over goes_on is this takes stopped =
+      shown_stopped old new last s sample undefined is_over goes_on is this own_sample own_undefined
+      (subst (λ spot. Takes old new (sample_taken spot undefined sample) goes_on) own_spot takes) stopped
+
+  -- a sample with its ports, as a reader gives them
+  pub shown_read : (old mid new : Judge) (last next : List (Option Port)) (changed : ℕ) (is_over goes_on : Bool)
+      (result : Result Bool AllocError) → is_over ≡ is_passed old.options.now s (state_of old) → is_over ≡ false → changed ≡ s.ports
+      → Takes old mid (sample_taken spot undefined sample) goes_on → goes_on ≡ true
+      → IfOk result (Takes mid new (ports_taken spot lines changed 0 last))
+      → IfOk result (λ goes_on. goes_on ≡ true → next ≡ ports_after lines changed 0 last) → IfOk result (TakesShown old new last next s)
+  shown_read old mid new last next changed is_over goes_on result is this slots takes goes ports after =
+      shown_whole old mid new last next s sample undefined is_over goes_on result is this own_sample own_undefined
+      (subst (λ spot. Takes old mid (sample_taken spot undefined sample) goes_on) own_spot takes) goes
+      (subst (λ spot. IfOk result (Takes mid new (ports_taken spot s.lines s.ports 0 last))) own_spot
+      (subst (λ lines. IfOk result (Takes mid new (ports_taken spot lines s.ports 0 last))) read.same_lines
+      (subst (λ changed. IfOk result (Takes mid new (ports_taken spot lines changed 0 last))) slots ports)))
+      (subst (λ lines. IfOk result (λ goes_on. goes_on ≡ true → next ≡ ports_after lines s.ports 0 last)) read.same_lines
+      (subst (λ changed. IfOk result (λ goes_on. goes_on ≡ true → next ≡ ports_after lines changed 0 last)) slots after))

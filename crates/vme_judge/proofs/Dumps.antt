@@ -1,35 +1,25 @@
 -- A sample of a dump, and what the local ports have done at it.
 use Rattle.std.proofs.Common.{◌≡◌, ℕ, ◌+◌, ◌^◌, ◌%◌, ◌<◌, ◌≤◌, Bool, true, false, not, ◌==◌, ◌||◌, List, [], ◌∷◌, ◌++◌, append_assoc, length, get_or, take, drop, Option, Some, None, is_some, Result, Ok, Err, IfOk, Bor, refl, ap, sym, ◌∙◌}
 use Rattle.std.specs.Prelude.{bit_and, if◌then◌else◌}
-use Rattle.std.specs.List.{position}
 use Rattle.std.specs.declared.alloc.AllocError.{AllocError}
 use Rattle.std.proofs.Math.ListN.{drop_of_length-le}
 use Rattle.std.proofs.Math.Nat.{zero-div}
 use Rattle.std.proofs.lemmas.Bool.{false≢true}
 use Rattle.std.proofs.lemmas.List.{drop_more, take-append-drop, take_more}
-use Rattle.vme_protocol.specs.declared.datum.Datum.{Datum}
-use Rattle.vme_protocol.specs.declared.port.Local.{Local}
 use Rattle.vme_protocol.specs.declared.port.Port.{Port}
 use Rattle.vme_protocol.specs.declared.rule.Rule.{Rule}
-use Rattle.vme_protocol.specs.declared.sample.Sample.{Sample}
 use Rattle.vme_protocol.specs.declared.scope.Scope.{Scope}
-use Rattle.vme_protocol.specs.declared.watch.Watch.{Watch}
 use Rattle.vme_protocol.specs.Ports.{local_between}
-use Rattle.vme_protocol.specs.Watching.{answer_of}
-use Rattle.vme_answers.specs.Taking.{Judged, local_taken, taken}
-use Rattle.vme_answers.specs.Wrongs.{local_wrong_of, wrong_of}
+use Rattle.vme_answers.specs.Taking.{taken}
 use Rattle.vme_vcd_reader.specs.declared.bus.BusLines.{BusLines}
 use Rattle.vme_vcd_reader.specs.declared.presence.Presence.{Presence}
-use Rattle.vme_judge.specs.declared.counts.Counts.{Counts}
 use Rattle.vme_judge.specs.declared.finding.Finding.{Finding}
 use Rattle.vme_judge.specs.declared.judge.Judge.{Judge}
 use Rattle.vme_judge.specs.declared.judge.Spot.{Spot}
 use Rattle.vme_judge.specs.declared.options.Options.{Options}
-use Rattle.vme_judge.specs.declared.transfer.OpenTransfer.{OpenTransfer}
-use Rattle.vme_judge.specs.DumpRuns.{Takes, placeless, placeless_of}
-use Rattle.vme_judge.specs.Dumps.{breach_taken, done_taken, dump_scope, is_among, port_at, port_finding, port_taken, ports_after, ports_taken, slots_of, with_presence}
-use Rattle.vme_judge.specs.Logs.{access_finding, access_judged, access_known, access_taken, accessed}
-use Rattle.vme_judge.specs.Standing.{Course, Falls, HasFallen, IsStanding, Standing, Stands, answer_finding, closed, counted, course_map, course_then, datum_judged, datum_known, found_at, found_by, noted, opened, order_finding, order_judged, sample_judged, sample_taken, shown_judged, standing, standing_of, stands, state_of, IsOnce, KeepsTask}
+use Rattle.vme_judge.specs.DumpRuns.{Takes}
+use Rattle.vme_judge.specs.Dumps.{breach_taken, done_taken, dump_scope, is_among, port_at, port_taken, ports_after, ports_taken, slots_of, with_presence}
+use Rattle.vme_judge.specs.Standing.{Course, Falls, HasFallen, IsStanding, Standing, Stands, course_map, course_then, found_by, standing, standing_of, stands, state_of, IsOnce, KeepsTask}
 use Rattle.vme_judge.proofs.Logs.{then_fallen}
 
 -- what is remembered is changed, by whether something was found before
@@ -48,95 +38,12 @@ scoped old p slots scope is now =
     ap (λ scope. standing_of old.found old.finding (record (state_of old) { scope = scope })) (now ∙ ap (λ slots. dump_scope p slots old.scope) is)
     ∙ map_by (with_presence p) old.found old.finding (state_of old) (old.found == 0) refl (λ finding. refl)
 
--- a finding without its line
-without_line : (once : Bool) (f : Finding) (counts : Counts) (t : Option OpenTransfer)
-    → placeless_of (found_at once f counts t) ≡ found_at once (record f { line = 0; undefined = None }) counts t
-without_line true f counts t = refl
-without_line false f counts t = refl
-
--- a course without lines after something
-pub placeless_then : (f g : Standing → Course) (c : Course) → ((m : Standing) → placeless_of (f m) ≡ g m)
-    → placeless_of (course_then f c) ≡ course_then g (placeless_of c)
-placeless_then f g (Stands m) same = same m
-placeless_then f g (Falls found) same = refl
-
--- a datum without its line
-datum_placeless : (spot : Spot) (w : Watch) (s : Sample) (d : Datum) (m : Standing) (k : Judged) (answer : Result Judged Rule)
-    → placeless_of (course_map (closed w.last s) (datum_known spot w.last s d k m answer))
-    ≡ course_map (closed w.last s) (datum_known (record spot { line = 0 }) w.last s d k m answer)
-datum_placeless spot w s d m k (Ok next) = refl
-datum_placeless spot w s d m k (Err rule) = without_line m.once (answer_finding spot m.boards w.last s m.transfer d (wrong_of k d rule)) m.counts None
-
--- what is shown without its line
-shown_placeless : (spot : Spot) (w : Watch) (s : Sample) (m : Standing) (datum : Option Datum) (answers : Option Judged) → m.answers ≡ answers
-    → placeless_of (course_map (closed w.last s) (shown_judged spot w.last s m datum))
-    ≡ course_map (closed w.last s) (shown_judged (record spot { line = 0 }) w.last s m datum)
-shown_placeless spot w s m None answers is = refl
-shown_placeless spot w s m (Some d) None is =
-    ap (λ k. placeless_of (course_map (closed w.last s) (datum_judged spot w.last s d (noted d (opened w.last s m)) k))) is
-    ∙ sym (ap (λ k. course_map (closed w.last s) (datum_judged (record spot { line = 0 }) w.last s d (noted d (opened w.last s m)) k)) is)
-shown_placeless spot w s m (Some d) (Some k) is =
-    ap (λ k. placeless_of (course_map (closed w.last s) (datum_judged spot w.last s d (noted d (opened w.last s m)) k))) is
-    ∙ datum_placeless spot w s d (noted d (opened w.last s m)) k (taken k d)
-    ∙ sym (ap (λ k. course_map (closed w.last s) (datum_judged (record spot { line = 0 }) w.last s d (noted d (opened w.last s m)) k)) is)
-
--- a sample without its line, by the rule that it breaks or the datum that it shows
-order_placeless : (spot : Spot) (undefined : Option (Bor (List ℕ))) (w : Watch) (s : Sample) (m : Standing) (answer : Result (Option Datum) Rule)
-    → placeless_of (order_judged spot undefined w s m answer) ≡ order_judged (record spot { line = 0 }) None w s m answer
-order_placeless spot undefined w s m (Err rule) =
-    without_line m.once (order_finding spot undefined w.last s m.transfer rule) (counted w s m).counts None
-order_placeless spot undefined w s m (Ok datum) = shown_placeless spot w s (counted w s m) datum m.answers refl
-
--- the same by the samples before it
-judged_placeless : (spot : Spot) (undefined : Option (Bor (List ℕ))) (s : Sample) (m : Standing) (w : Option Watch)
-    → placeless_of (sample_judged spot undefined s m w) ≡ sample_judged (record spot { line = 0 }) None s m w
-judged_placeless spot undefined s m None = refl
-judged_placeless spot undefined s m (Some w) = order_placeless spot undefined w s m (answer_of w s)
-
--- a sample without its line
-pub sample_placeless : (spot : Spot) (undefined : Option (Bor (List ℕ))) (s : Sample) (m : Standing)
-    → placeless_of (sample_taken spot undefined s m) ≡ sample_taken (record spot { line = 0 }) None s m
-unfolding sample_taken
-sample_placeless spot undefined s m = judged_placeless spot undefined s m m.watch
-
--- a local access without its line, by the answer of its board
-known_placeless : (spot : Spot) (slot : ℕ) (a : Local) (board : ℕ) (k : Judged) (m : Standing) (answer : Result Judged Rule)
-    → placeless_of (access_known spot slot a board k m answer) ≡ access_known (record spot { line = 0 }) slot a board k m answer
-known_placeless spot slot a board k m (Ok next) = refl
-known_placeless spot slot a board k m (Err rule) =
-    without_line m.once (access_finding spot slot a m.transfer (local_wrong_of k board a rule)) m.counts m.transfer
-
--- the same by its board
-board_placeless : (spot : Spot) (slot : ℕ) (a : Local) (m : Standing) (board : Option ℕ) (k : Option Judged)
-    → placeless_of (access_judged spot slot a m board k) ≡ access_judged (record spot { line = 0 }) slot a m board k
-board_placeless spot slot a m None k = refl
-board_placeless spot slot a m (Some board) None = refl
-board_placeless spot slot a m (Some board) (Some k) = known_placeless spot slot a board k m (local_taken k board a)
-
--- a local access without its line
-pub access_placeless : (spot : Spot) (slot : ℕ) (a : Local) (m : Standing)
-    → placeless_of (access_taken spot slot a m) ≡ access_taken (record spot { line = 0 }) slot a m
-unfolding access_taken
-access_placeless spot slot a m =
-    board_placeless spot slot a (accessed m) (position (λ board. board.slot == slot) m.boards) m.answers
-
--- a rule that a local port breaks, without its line
-pub breach_placeless : (spot : Spot) (slot : ℕ) (rule : Rule) (m : Standing)
-    → placeless_of (breach_taken spot slot rule m) ≡ breach_taken (record spot { line = 0 }) slot rule m
-unfolding breach_taken
-breach_placeless spot slot rule m = without_line m.once (port_finding spot slot m.transfer rule) m.counts m.transfer
-
--- whether a course stands does not depend on lines
-pub placeless_stands : (c : Course) → stands (placeless_of c) ≡ stands c
-placeless_stands (Stands m) = refl
-placeless_stands (Falls found) = refl
-
 -- a judgement for one finding stays one
 pub once_kept : (old new : Judge) → KeepsTask old new → IsOnce old → IsOnce new
 once_kept old new task once = (ap (λ (o : Bor Options). o.now.limit) task.0 ∙ once.0, task.3 ∙ once.1)
 
 -- a judgement that takes nothing
-pub takes_nothing : (judge : Judge) (taken : Standing → Course) → course_then taken (placeless judge) ≡ placeless judge
+pub takes_nothing : (judge : Judge) (taken : Standing → Course) → course_then taken (standing judge) ≡ standing judge
     → Takes judge judge taken true
 takes_nothing judge taken same = record {
   judged = sym same;
@@ -146,11 +53,10 @@ takes_nothing judge taken same = record {
 }
 
 -- a judgement that takes what is legal
-pub takes_legal : (old new : Judge) (f g : Standing → Course) (legal : Bool) → legal ≡ true → ((m : Standing) → placeless_of (f m) ≡ g m)
-    → standing new ≡ course_then f (standing old) → (IsStanding (standing old) → legal ≡ stands (standing new))
-    → KeepsTask old new → Takes old new g true
-takes_legal old new f g legal is same judged goes task = record {
-  judged = ap placeless_of judged ∙ placeless_then f g (standing old) same;
+pub takes_legal : (old new : Judge) (f : Standing → Course) (legal : Bool) → legal ≡ true → standing new ≡ course_then f (standing old)
+    → (IsStanding (standing old) → legal ≡ stands (standing new)) → KeepsTask old new → Takes old new f true
+takes_legal old new f legal is judged goes task = record {
+  judged = judged;
   stops = λ off. absurd (cc off);
   options = task.0;
   once = λ once stood. (once_kept old new task once, λ on. sym (goes stood) ∙ is);
@@ -166,12 +72,11 @@ module _ (old new : Judge) (result : Result Bool AllocError) where
     pub options : IfOk result (λ _. new.options ≡ old.options)
 
 -- a judgement that takes what is not legal, and may go on
-pub takes_illegal : (old mid new : Judge) (f g : Standing → Course) (result : Result Bool AllocError)
-    → ((m : Standing) → placeless_of (f m) ≡ g m) → standing mid ≡ course_then f (standing old)
-    → (IsStanding (standing old) → HasFallen (standing mid)) → KeepsTask old mid → GoesOn mid new result → IfOk result (Takes old new g)
-takes_illegal old mid new f g (Err fault) same judged fell task goes = tt
-takes_illegal old mid new f g (Ok goes_on) same judged fell task goes = record {
-  judged = ap placeless_of (goes.stands ∙ judged) ∙ placeless_then f g (standing old) same;
+pub takes_illegal : (old mid new : Judge) (f : Standing → Course) (result : Result Bool AllocError) → standing mid ≡ course_then f (standing old)
+    → (IsStanding (standing old) → HasFallen (standing mid)) → KeepsTask old mid → GoesOn mid new result → IfOk result (Takes old new f)
+takes_illegal old mid new f (Err fault) judged fell task goes = tt
+takes_illegal old mid new f (Ok goes_on) judged fell task goes = record {
+  judged = goes.stands ∙ judged;
   stops = goes.stops;
   options = goes.options ∙ task.0;
   once = λ once stood.
@@ -182,17 +87,16 @@ takes_illegal old mid new f g (Ok goes_on) same judged fell task goes = record {
 -- a rule that is broken
 pub takes_breach : (old mid new : Judge) (spot : Spot) (slot : ℕ) (rule : Rule) (result : Result Bool AllocError)
     → standing mid ≡ course_then (breach_taken spot slot rule) (standing old) → HasFallen (standing mid) → KeepsTask old mid
-    → GoesOn mid new result → IfOk result (Takes old new (breach_taken (record spot { line = 0 }) slot rule))
+    → GoesOn mid new result → IfOk result (Takes old new (breach_taken spot slot rule))
 takes_breach old mid new spot slot rule result judged fell task goes =
-    takes_illegal old mid new (breach_taken spot slot rule) (breach_taken (record spot { line = 0 }) slot rule) result
-    (breach_placeless spot slot rule) judged (λ stood. fell) task goes
+    takes_illegal old mid new (breach_taken spot slot rule) result judged (λ stood. fell) task goes
 
 -- the same by what is called legal
-pub takes_wrong : (old mid new : Judge) (f g : Standing → Course) (legal : Bool) (result : Result Bool AllocError) → legal ≡ false
-    → ((m : Standing) → placeless_of (f m) ≡ g m) → standing mid ≡ course_then f (standing old)
-    → (IsStanding (standing old) → legal ≡ stands (standing mid)) → KeepsTask old mid → GoesOn mid new result → IfOk result (Takes old new g)
-takes_wrong old mid new f g legal result is same judged legals task goes =
-    takes_illegal old mid new f g result same judged (λ stood. sym (legals stood) ∙ is) task goes
+pub takes_wrong : (old mid new : Judge) (f : Standing → Course) (legal : Bool) (result : Result Bool AllocError) → legal ≡ false
+    → standing mid ≡ course_then f (standing old) → (IsStanding (standing old) → legal ≡ stands (standing mid)) → KeepsTask old mid
+    → GoesOn mid new result → IfOk result (Takes old new f)
+takes_wrong old mid new f legal result is judged legals task goes =
+    takes_illegal old mid new f result judged (λ stood. sym (legals stood) ∙ is) task goes
 
 -- one thing after another
 and_both : (f g : Standing → Course) (c : Course) → course_then g (course_then f c) ≡ course_then (λ m. course_then g (f m)) c
@@ -203,7 +107,7 @@ and_both f g (Stands m) = refl
 pub takes_both : (old mid new : Judge) (f g : Standing → Course) (goes_on : Bool) → Takes old mid f true → Takes mid new g goes_on
     → Takes old new (λ m. course_then g (f m)) goes_on
 takes_both old mid new f g goes_on one two = record {
-  judged = two.judged ∙ ap (course_then g) one.judged ∙ and_both f g (placeless old);
+  judged = two.judged ∙ ap (course_then g) one.judged ∙ and_both f g (standing old);
   stops = two.stops;
   options = two.options ∙ one.options;
   once = λ once stood. let had = one.once once stood in two.once had.0 (had.1 refl);
@@ -213,15 +117,15 @@ takes_both old mid new f g goes_on one two = record {
 pub takes_first : (old new : Judge) (f g : Standing → Course) → Takes old new f false → Takes old new (λ m. course_then g (f m)) false
 takes_first old new f g one = record {
   judged =
-      sym (then_fallen g (placeless new) (placeless_stands (standing new) ∙ one.stops refl))
-      ∙ ap (course_then g) one.judged ∙ and_both f g (placeless old);
+      sym (then_fallen g (standing new) (one.stops refl))
+      ∙ ap (course_then g) one.judged ∙ and_both f g (standing old);
   stops = one.stops;
   options = one.options;
   once = λ once stood. let had = one.once once stood in (had.0, λ on. absurd (false≢true on));
 }
 
 -- the same thing, said otherwise
-pub takes_as : (old new : Judge) (f g : Standing → Course) (goes_on : Bool) → course_then f (placeless old) ≡ course_then g (placeless old)
+pub takes_as : (old new : Judge) (f g : Standing → Course) (goes_on : Bool) → course_then f (standing old) ≡ course_then g (standing old)
     → Takes old new f goes_on → Takes old new g goes_on
 takes_as old new f g goes_on same takes = record {
   judged = takes.judged ∙ same;
@@ -233,7 +137,7 @@ takes_as old new f g goes_on same takes = record {
 -- a port before the first sample at rest, by whether something was found
 waits_by : (spot : Spot) (slot : ℕ) (last now : Port) (found : ℕ) (finding : Option Finding) (m : Standing) (test : Bool) → (found == 0) ≡ test
     → is_some m.watch ≡ false
-    → course_then (port_taken spot slot (Some last) now) (placeless_of (standing_of found finding m)) ≡ placeless_of (standing_of found finding m)
+    → course_then (port_taken spot slot (Some last) now) (standing_of found finding m) ≡ standing_of found finding m
 waits_by spot slot last now found finding m false is waits = rw is refl
 waits_by spot slot last now found (Some finding) m true is waits = rw is refl
 waits_by spot slot last now found None m true is waits =
@@ -252,8 +156,8 @@ neither false b is = refl
 -- a port that is judged, by whether something was found
 judges_by : (spot : Spot) (slot : ℕ) (last now : Port) (found : ℕ) (finding : Option Finding) (m : Standing) (test : Bool) → (found == 0) ≡ test
     → (is_some m.watch || not test) ≡ true
-    → course_then (done_taken spot slot (local_between last now)) (placeless_of (standing_of found finding m))
-    ≡ course_then (port_taken spot slot (Some last) now) (placeless_of (standing_of found finding m))
+    → course_then (done_taken spot slot (local_between last now)) (standing_of found finding m)
+    ≡ course_then (port_taken spot slot (Some last) now) (standing_of found finding m)
 judges_by spot slot last now found finding m false is begun = rw is refl
 judges_by spot slot last now found (Some finding) m true is begun = rw is refl
 judges_by spot slot last now found None m true is begun =
@@ -265,7 +169,7 @@ pub takes_waiting : (judge : Judge) (spot : Spot) (slot : ℕ) (last : Option Po
 unfolding standing
 takes_waiting judge spot slot last before now begun is same not_begun =
     takes_nothing judge (port_taken spot slot last now) (
-    ap (λ last. course_then (port_taken spot slot last now) (placeless judge)) is
+    ap (λ last. course_then (port_taken spot slot last now) (standing judge)) is
     ∙ waits_by spot slot before now judge.found judge.finding (state_of judge) (judge.found == 0) refl
     (neither (is_some judge.watch) (not (judge.found == 0)) (sym same ∙ not_begun))
     )
@@ -279,7 +183,7 @@ takes_judged old new spot slot last before now begun (Err fault) is same has_beg
 takes_judged old new spot slot last before now begun (Ok goes_on) is same has_begun takes =
     takes_as old new (done_taken spot slot (local_between before now)) (port_taken spot slot last now) goes_on (
     judges_by spot slot before now old.found old.finding (state_of old) (old.found == 0) refl (sym same ∙ has_begun)
-    ∙ ap (λ last. course_then (port_taken spot slot last now) (placeless old)) (sym is)
+    ∙ ap (λ last. course_then (port_taken spot slot last now) (standing old)) (sym is)
     ) takes
 
 -- a port that has shown nothing
@@ -317,8 +221,8 @@ pub takes_none : (judge : Judge) (spot : Spot) (lines : BusLines) (changed place
     → Takes judge judge (ports_taken spot lines changed place ports) true
 takes_none judge spot lines changed place ports none =
     takes_nothing judge (ports_taken spot lines changed place ports) (
-    ap (λ changed. course_then (ports_taken spot lines changed place ports) (placeless judge)) none
-    ∙ no_port spot lines place ports (placeless judge)
+    ap (λ changed. course_then (ports_taken spot lines changed place ports) (standing judge)) none
+    ∙ no_port spot lines place ports (standing judge)
     )
 
 -- no port is left
@@ -350,15 +254,15 @@ skips_shown lines changed place ports less is =
 
 -- no ports are left: what is remembered
 pub ports_ended : (old new : Judge) (spot : Spot) (lines : BusLines) (changed place : ℕ) (last ports : List (Option Port)) → length ports ≤ place
-    → course_then (ports_taken spot lines changed 0 last) (placeless old)
-    ≡ course_then (ports_taken spot lines changed place (drop place ports)) (placeless new)
+    → course_then (ports_taken spot lines changed 0 last) (standing old)
+    ≡ course_then (ports_taken spot lines changed place (drop place ports)) (standing new)
     → new.options ≡ old.options → (IsOnce old → IsStanding (standing old) → IsOnce new × IsStanding (standing new))
     → Takes old new (ports_taken spot lines changed 0 last) true
 ports_ended old new spot lines changed place last ports all judged options once = record {
   judged = sym (
       judged
-      ∙ ap (λ ports. course_then (ports_taken spot lines changed place ports) (placeless new)) (drop_of_length-le ports all)
-      ∙ takes_all spot lines changed place (placeless new)
+      ∙ ap (λ ports. course_then (ports_taken spot lines changed place ports) (standing new)) (drop_of_length-le ports all)
+      ∙ takes_all spot lines changed place (standing new)
       );
   stops = λ is. absurd (cc is);
   options = options;

@@ -1,9 +1,10 @@
 -- Samples taken one after another.
-use Rattle.std.proofs.Common.{◌≡◌, ℕ, Bool, true, false, ◌==◌, List, Option, Some, None, Result, Ok, Err, IfOk, Bor, IsNone, IsSome, is_none, is_some, refl, ap, sym, ◌∙◌, eqb-true}
+use Rattle.std.proofs.Common.{◌≡◌, ℕ, Bool, true, false, ◌==◌, Option, Some, None, Result, Ok, Err, IfOk, IsNone, IsSome, is_none, is_some, refl, ap, sym, ◌∙◌, eqb-true}
 use Rattle.std.specs.List.{position}
 use Rattle.std.specs.declared.alloc.AllocError.{AllocError}
 use Rattle.vme_protocol.specs.declared.port.Local.{Local}
 use Rattle.vme_protocol.specs.declared.sample.Sample.{Sample}
+use Rattle.vme_vcd_reader.specs.declared.control.ControlLine.{ControlLine}
 use Rattle.vme_judge.specs.declared.finding.Finding.{Finding}
 use Rattle.vme_judge.specs.declared.judge.Judge.{Judge}
 use Rattle.vme_judge.specs.declared.judge.Spot.{Spot}
@@ -30,7 +31,7 @@ kept_found : (old new : Judge) (finding : Option Finding) → KeepsTask old new
 kept_found old new finding task = ap (λ found. standing_of found finding (state_of new)) task.3
 
 -- a trace after a sample
-pub stands_then : (old new : Judge) (spot : Spot) (undefined : Option (Bor (List ℕ))) (s : Sample) (result : Result Bool AllocError)
+pub stands_then : (old new : Judge) (spot : Spot) (undefined : Option ControlLine) (s : Sample) (result : Result Bool AllocError)
     → IsNone old.finding → IfOk result (λ _. KeepsTask old new)
     → IfOk result (λ _. IsNone old.finding → old.found ≡ 0
     → found_by new.finding (state_of new) ≡ sample_judged spot undefined s (state_of old) old.watch)

@@ -1,15 +1,18 @@
 -- The blanks before a trace, which are lines of a log and nothing of a dump.
-use Rattle.std.specs.Prelude.{◌≡◌, ℕ, Bool, true, false, if◌then◌else◌, List, [], ◌++◌, length, is_some}
+use Rattle.std.specs.Prelude.{◌≡◌, ℕ, Bool, true, false, if◌then◌else◌, List, [], ◌∷◌, ◌++◌, length, is_some}
 use Rattle.vme_line_map.specs.Variables.{Map}
 use Rattle.vme_bus_log.specs.Texts.{EndsNoLine, Reading, SaysAs}
+use Rattle.vme_vcd_reader.specs.declared.reader.VcdReader.{VcdReader}
+use Rattle.vme_vcd_reader.specs.Bodies.{line_after}
 use Rattle.vme_vcd_reader.specs.Headers.{beginning}
 use Rattle.vme_vcd_reader.specs.Readers.{IsHeader}
 use Rattle.vme_judge.specs.declared.run.Kind.TheVariants as kinds
 use Rattle.vme_judge.specs.declared.run.Run.{Run}
-use Rattle.vme_judge.specs.DumpRuns.{DumpStays, InHeader, HasReached, IsDumpJudgedAs, IsUnjudged, Reached, dump_so_far, placeless, text_whole}
+use Rattle.vme_judge.specs.DumpRuns.{DumpStays, InHeader, HasReached, IsDumpJudgedAs, IsUnjudged, Reached, dump_so_far, text_whole}
 use Rattle.vme_judge.specs.Dumps.{DumpSoFar, Broken}
 use Rattle.vme_judge.specs.DumpTexts.{has_long_blanks}
 use Rattle.vme_judge.specs.Runs.{form_after, RunsOnce}
+use Rattle.vme_judge.specs.Standing.{standing}
 
 -- all bytes are blanks: the form of a trace that begins with them is not known yet
 abbrev pub AreBlanks : List ℕ → Type 0
@@ -40,6 +43,15 @@ pub record TakesBlanks (line : List ℕ) (old new : Run) (bytes : List ℕ) (goe
   pub reads : goes_on ≡ true → ReadsBlanks line old new bytes
   pub stops : goes_on ≡ false → RejectsBlanks line new bytes
 
+-- a reader is before the first byte of a dump
+abbrev pub IsAtStart : Map → VcdReader → Type 0
+IsAtStart map v = IsHeader map beginning [] v × (v.line ≡ 1)
+
+-- the number of the line after bytes
+abbrev pub line_past : List ℕ → ℕ → ℕ
+line_past [] line = line
+line_past (b ∷ bytes) line = line_past bytes (line_after b line)
+
 -- a run is before the first byte of a trace that is no blank
 pub record IsBlankSoFar (map : Map) (line : List ℕ) (run : Run) : Type 0 where
   pub reader : IsHeader map beginning [] run.vcd
@@ -48,6 +60,7 @@ pub record IsBlankSoFar (map : Map) (line : List ℕ) (run : Run) : Type 0 where
 -- a run has skipped blanks after those of a line
 pub record SkipsBlanks (map : Map) (line : List ℕ) (old new : Run) (bytes : List ℕ) (goes_on : Bool) : Type 0 where
   pub reader : IsHeader map beginning [] new.vcd
+  pub counts : new.vcd.line ≡ line_past bytes old.vcd.line
   pub takes : TakesBlanks line old new bytes goes_on
 
 -- the whole dump, if blanks of a line are read and this text is left
@@ -65,7 +78,8 @@ pub record ReadsFirst (map : Map) (line : List ℕ) (old new : Run) (bytes : Lis
 -- a run has taken the first bytes of a dump, after blanks of a line
 pub record BeginsDump (map : Map) (line : List ℕ) (old new : Run) (bytes : List ℕ) (goes_on : Bool) : Type 0 where
   pub reads : goes_on ≡ true → ReadsFirst map line old new bytes
-  pub stops : goes_on ≡ false → (rest : List ℕ) → IsDumpJudgedAs (blanks_whole map line old (bytes ++ rest)) (dump_so_far new) (placeless new.judge)
+  pub stops : goes_on ≡ false → (rest : List ℕ)
+      → IsDumpJudgedAs (blanks_whole map line old (bytes ++ rest)) (dump_so_far new) (standing new.judge)
   pub stays : DumpStays old new
   pub once : RunsOnce old new goes_on
 

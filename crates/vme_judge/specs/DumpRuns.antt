@@ -1,6 +1,5 @@
 -- A dump that is judged while it is read.
 use Rattle.std.specs.Prelude.{◌≡◌, ℕ, Bool, true, false, ◌⊎◌, List, [], ◌++◌, Option, Some, None, is_some, ⊤}
-use Rattle.std.specs.Option.{option_map}
 use Rattle.vme_line_map.specs.Variables.{Map}
 use Rattle.vme_protocol.specs.declared.port.Port.{Port}
 use Rattle.vme_vcd_reader.specs.declared.reader.VcdReader.{VcdReader}
@@ -15,20 +14,7 @@ use Rattle.vme_judge.specs.declared.run.Run.{Run}
 use Rattle.vme_judge.specs.Dumps.{DumpSoFar, Illegal, Broken, dump_by, dump_taken, next_shown, with_presence}
 use Rattle.vme_judge.specs.DumpTexts.{header_judged}
 use Rattle.vme_judge.specs.Runs.{IsGoing, IsOnceRun, RunsOnce}
-use Rattle.vme_judge.specs.Standing.{Course, Falls, Found, HasFallen, IsStanding, Standing, Stands, course_map, course_then, standing, IsOnce}
-
--- a finding without its line in the dump, and without the line of the bus that is undefined
-abbrev pub unplaced : Found → Found
-unplaced f = record f { finding = record f.finding { line = 0; undefined = None } }
-
--- a course without them
-abbrev pub placeless_of : Course → Course
-placeless_of (Stands m) = Stands m
-placeless_of (Falls found) = Falls (option_map unplaced found)
-
--- a dump as far as a judgement has it, without them
-abbrev pub placeless : Judge → Course
-placeless j = placeless_of (standing j)
+use Rattle.vme_judge.specs.Standing.{Course, Falls, Found, HasFallen, IsStanding, Standing, course_map, course_then, standing, IsOnce}
 
 -- a judgement for one finding stays one, and if it goes on, it has found nothing
 abbrev pub JudgesOnce : Judge → Judge → Bool → Type 0
@@ -36,18 +22,24 @@ JudgesOnce old new goes_on = IsOnce old → IsStanding (standing old) → IsOnce
 
 -- a judgement has taken something of a trace; if it does not go on, something was found
 pub record Takes (old new : Judge) (taken : Standing → Course) (goes_on : Bool) : Type 0 where
-  pub judged : placeless new ≡ course_then taken (placeless old)
+  pub judged : standing new ≡ course_then taken (standing old)
   pub stops : goes_on ≡ false → HasFallen (standing new)
   pub options : new.options ≡ old.options
   pub once : JudgesOnce old new goes_on
 
 -- the sample that a reader has completed
 abbrev pub shown_by : VcdReader → Shown
-shown_by v = record { time = v.sample_time; lines = v.bus; changed = v.sample_is_changed; ports = v.sample_ports }
+shown_by v = record {
+  time = v.sample_time;
+  line = v.sample_line;
+  lines = v.bus;
+  changed = v.sample_is_changed;
+  ports = v.sample_ports;
+}
 
 -- a judgement and what is remembered of local ports have taken a sample
 pub record TakesShown (old new : Judge) (last next : List (Option Port)) (shown : Shown) (goes_on : Bool) : Type 0 where
-  pub dump : dump_by (placeless new) next ≡ next_shown old.options.now shown (dump_by (placeless old) last)
+  pub dump : dump_by (standing new) next ≡ next_shown old.options.now shown (dump_by (standing old) last)
   pub stops : goes_on ≡ false → HasFallen (standing new)
   pub options : new.options ≡ old.options
   pub once : JudgesOnce old new goes_on
@@ -59,11 +51,11 @@ dump_at false c ports = dump_by c ports
 
 -- a dump as far as a run has judged it
 abbrev pub dump_so_far : Run → DumpSoFar
-dump_so_far r = dump_at (is_some r.rejection) (placeless r.judge) r.ports.last
+dump_so_far r = dump_at (is_some r.rejection) (standing r.judge) r.ports.last
 
 -- what was found in a dump stays found
 abbrev pub DumpStays : Run → Run → Type 0
-DumpStays old new = (found : Option Found) → placeless old.judge ≡ Falls found → placeless new.judge ≡ Falls found
+DumpStays old new = (found : Option Found) → standing old.judge ≡ Falls found → standing new.judge ≡ Falls found
 
 -- the whole dump, if this text of its body is left to read
 abbrev pub dump_whole : Run → Reading → List ℕ → DumpSoFar
@@ -81,7 +73,8 @@ HasReached map (InBody r) v = IsReading r v
 
 -- the whole dump, if this text is left to read
 abbrev pub text_whole : Map → Run → Reached → List ℕ → DumpSoFar
-text_whole map run (InHeader h ds) rest = header_judged run.judge.options.now map (dump_so_far run) ds (Goes h) rest
+text_whole map run (InHeader h ds) rest =
+    header_judged run.judge.options.now map (dump_so_far run) ds (Goes h) run.vcd.line rest
 text_whole map run (InBody r) rest = dump_whole run r rest
 
 -- a run that is within the header of a dump has judged nothing of it
@@ -106,7 +99,7 @@ pub record ReadsOn (map : Map) (old new : Run) (reached : Reached) (bytes : List
 
 -- a run that ends has judged the whole dump, if it is these bytes and this rest
 abbrev pub JudgesDump : Map → Run → Run → Reached → List ℕ → Type 0
-JudgesDump map old new reached text = IsDumpJudgedAs (text_whole map old reached text) (dump_so_far new) (placeless new.judge)
+JudgesDump map old new reached text = IsDumpJudgedAs (text_whole map old reached text) (dump_so_far new) (standing new.judge)
 
 -- a run has taken bytes of a dump: it reads on, or has judged the whole dump, whatever follows
 pub record TakesDump (map : Map) (old new : Run) (reached : Reached) (bytes : List ℕ) (goes_on : Bool) : Type 0 where
@@ -151,7 +144,7 @@ pub record TakesLast (old new : Run) (samples : Samples) : Type 0 where
 
 -- a run has judged a body that ends here
 pub record EndsDump (old new : Run) (r : Reading) : Type 0 where
-  pub judges : IsDumpJudgedAs (dump_whole old r []) (dump_so_far new) (placeless new.judge)
+  pub judges : IsDumpJudgedAs (dump_whole old r []) (dump_so_far new) (standing new.judge)
   pub stays : DumpStays old new
   pub once : EndsOnce old new
 

@@ -5,7 +5,7 @@ use Rattle.vme_vcd_reader.specs.declared.fault.VcdFault.{VcdFault}
 use Rattle.vme_vcd_reader.specs.declared.presence.Presence.{Presence}
 use Rattle.vme_vcd_reader.specs.declared.table.Row.{Row}
 use Rattle.vme_vcd_reader.specs.declared.variable.Mapped.{Mapped}
-use Rattle.vme_vcd_reader.specs.Bodies.{samples_of}
+use Rattle.vme_vcd_reader.specs.Bodies.{line_after, samples_of}
 use Rattle.vme_vcd_reader.specs.Headers.{Outcome, Goes, Declares, Ends, Rejects, beginning, byte_read}
 use Rattle.vme_vcd_reader.specs.Mapping.{Declaration, declaration}
 use Rattle.vme_vcd_reader.specs.Matches.{lines_of}
@@ -29,22 +29,23 @@ headed p (Legal m ports) = Legal (with_presence p m) ports
 headed p (Illegal found) = Illegal found
 headed p Broken = Broken
 
--- a dump by the lines of its header and the text of its body, which is judged as its samples; its header may not have the
--- lines that are wanted
-abbrev pub body_judged : Options → DumpSoFar → Result (List (ℕ × Mapped)) VcdFault → List ℕ → DumpSoFar
-body_judged o d (Err fault) text = broken_off d
-body_judged o d (Ok lines) text =
-    dump_taken o (headed (presence_of lines) d) (samples_of (rows_with lines) (opening_of (presence_of lines).busy) text)
+-- a dump by the lines of its header, the number of the line with which the text of its body begins, and this text, which is
+-- judged as its samples; its header may not have the lines that are wanted
+abbrev pub body_judged : Options → DumpSoFar → Result (List (ℕ × Mapped)) VcdFault → ℕ → List ℕ → DumpSoFar
+body_judged o d (Err fault) line text = broken_off d
+body_judged o d (Ok lines) line text =
+    dump_taken o (headed (presence_of lines) d) (samples_of (rows_with lines) (opening_of (presence_of lines).busy line) text)
 
--- a dump by what became of its header, which had declared variables, and the text that is left; one that ends within its
--- header is none
-abbrev pub header_judged : Options → Map → DumpSoFar → List Declaration → Outcome → List ℕ → DumpSoFar
-header_judged o map d ds Ends text = body_judged o d (lines_of map ds) text
-header_judged o map d ds (Rejects fault) text = broken_off d
-header_judged o map d ds (Goes h) [] = broken_off d
-header_judged o map d ds (Goes h) (b ∷ bs) = header_judged o map d ds (byte_read h b) bs
-header_judged o map d ds (Declares h) [] = broken_off d
-header_judged o map d ds (Declares h) (b ∷ bs) = header_judged o map d (ds ++ declaration h ∷ []) (byte_read h b) bs
+-- a dump by what became of its header, which had declared variables, the number of the line with which the text begins that is
+-- left, and this text; one that ends within its header is none
+abbrev pub header_judged : Options → Map → DumpSoFar → List Declaration → Outcome → ℕ → List ℕ → DumpSoFar
+header_judged o map d ds Ends line text = body_judged o d (lines_of map ds) line text
+header_judged o map d ds (Rejects fault) line text = broken_off d
+header_judged o map d ds (Goes h) line [] = broken_off d
+header_judged o map d ds (Goes h) line (b ∷ bs) = header_judged o map d ds (byte_read h b) (line_after b line) bs
+header_judged o map d ds (Declares h) line [] = broken_off d
+header_judged o map d ds (Declares h) line (b ∷ bs) =
+    header_judged o map d (ds ++ declaration h ∷ []) (byte_read h b) (line_after b line) bs
 
 -- whether a line of more than 255 blanks ends before the first byte of a text that is no blank; the text stands after
 -- blanks of a line
@@ -58,7 +59,7 @@ has_long_blanks blanks (b ∷ text) =
 unfoldable pub dump_of : Options → Map → List Board → List ℕ → DumpSoFar
 dump_of o map boards text =
     if has_long_blanks 0 text then Broken
-    else header_judged o map (Legal (opening o boards) (replicate 21 None)) [] (Goes beginning) text
+    else header_judged o map (Legal (opening o boards) (replicate 21 None)) [] (Goes beginning) 1 text
 
 -- a status says how a dump was judged; where another number of findings than one is asked for, an illegal dump may be
 -- rejected for a word after the first finding

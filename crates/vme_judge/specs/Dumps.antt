@@ -6,9 +6,11 @@ use Rattle.vme_protocol.specs.declared.rule.Rule.{Rule}
 use Rattle.vme_protocol.specs.declared.scope.Scope.{Scope}
 use Rattle.vme_protocol.specs.Ports.{local_between}
 use Rattle.vme_vcd_reader.specs.declared.bus.BusLines.{BusLines}
+use Rattle.vme_vcd_reader.specs.declared.control.ControlLine.{ControlLine}
 use Rattle.vme_vcd_reader.specs.declared.presence.Presence.{Presence}
 use Rattle.vme_vcd_reader.specs.Bodies.{Shown, Samples, Sample, End, Broken as BrokenBody}
 use Rattle.vme_vcd_reader.specs.Buses.{port_of, sample_of, with_slot}
+use Rattle.vme_vcd_reader.specs.ControlLines.{undefined_line}
 use Rattle.vme_judge.specs.declared.boards.Board.{Board}
 use Rattle.vme_judge.specs.declared.fault.Status.{Status}
 use Rattle.vme_judge.specs.declared.fault.Status.TheVariants as statuses
@@ -115,9 +117,13 @@ abbrev pub dump_by : Course → List (Option Port) → DumpSoFar
 dump_by (Falls found) ports = Illegal found
 dump_by (Stands m) ports = Legal m ports
 
--- the place of a sample: its time. In which line it is said, and which line of the bus is undefined, is not stated
-abbrev pub time_spot : ℕ → Spot
-time_spot time = record { line = 0; time = Some time }
+-- the place of a sample: its time, and the line of the dump that says it
+abbrev pub spot_of : Shown → Spot
+spot_of s = record { line = s.line; time = Some s.time }
+
+-- a control line that is undefined at a sample, if the sample is one with such a line
+abbrev pub undefined_at : BusLines → Bool → Option ControlLine
+undefined_at lines undefined = if undefined then undefined_line lines else None
 
 -- what is remembered after a sample that is passed over
 abbrev pub passed : Standing → Standing
@@ -130,8 +136,8 @@ is_passed o s m = not s.changed && is_none o.timeout && is_some m.watch
 -- a trace that stands, after a sample and what the local ports have done at it
 abbrev pub shown_taken : Shown → List (Option Port) → Standing → Course
 shown_taken s ports m =
-    course_then (ports_taken (time_spot s.time) s.lines s.ports 0 ports)
-    (sample_taken (time_spot s.time) None (sample_of s.lines s.time) m)
+    course_then (ports_taken (spot_of s) s.lines s.ports 0 ports)
+    (sample_taken (spot_of s) (undefined_at s.lines (sample_of s.lines s.time).undefined) (sample_of s.lines s.time) m)
 
 -- a legal dump after a sample
 abbrev pub legal_next : Options → Shown → Standing → List (Option Port) → DumpSoFar

@@ -1,6 +1,5 @@
 -- The text of a finding: where it is and what is wrong, the levels, the transfer, what is expected, and help.
 use Rattle.std.specs.Prelude.{ℕ, ◌+◌, ◌-◌, bit_and, nat_le, nat_lt, Bool, true, false, ◌==◌, ◌&&◌, if◌then◌else◌, List, [], ◌∷◌, ◌++◌, codes, length, Option, Some, None}
-use Rattle.std.specs.Borrow.{Bor}
 use Rattle.std.specs.Fmt.{decimal}
 use Rattle.std.specs.Int.{w32, w64, to_be_bytes, trailing_zeros}
 use Rattle.vme_answers.specs.declared.wrong.Wrong.{Wrong}
@@ -9,6 +8,8 @@ use Rattle.vme_protocol.specs.declared.rule.Rule.{Rule}
 use Rattle.vme_protocol.specs.declared.rule.Rule.TheVariants as rules
 use Rattle.vme_protocol.specs.declared.sample.Sample.{Sample}
 use Rattle.vme_protocol.specs.Rules.{code, section, text}
+use Rattle.vme_vcd_reader.specs.declared.control.ControlLine.{ControlLine}
+use Rattle.vme_vcd_reader.specs.ControlLines.{control_name}
 use Rattle.vme_judge.specs.declared.finding.Asked.{Asked}
 use Rattle.vme_judge.specs.declared.finding.Asked.TheVariants as askeds
 use Rattle.vme_judge.specs.declared.finding.Broken.{Broken}
@@ -114,9 +115,9 @@ answer_text w asked (Some slot) =
     if is_of_bytes w.rule then reading_text w asked slot else codes "slot " ++ decimal slot ++ codes ": " ++ text w.rule
 
 -- the line that is undefined, if it is known
-abbrev pub undefined_text : Option (Bor (List ℕ)) → List ℕ
+abbrev pub undefined_text : Option ControlLine → List ℕ
 undefined_text None = text rules.Undefined
-undefined_text (Some line) = line.now ++ codes " is undefined"
+undefined_text (Some line) = control_name line ++ codes " is undefined"
 
 -- what is wrong by the order of samples
 abbrev pub order_text : Finding → Rule → List ℕ

@@ -1,6 +1,5 @@
 -- What is remembered of a trace that is legal so far, and what is found at the first sample that is not.
 use Rattle.std.specs.Prelude.{◌≡◌, ℕ, Bool, true, false, ◌==◌, if◌then◌else◌, List, [], ◌∷◌, slice_get, Option, Some, None, Result, Ok, Err}
-use Rattle.std.specs.Borrow.{Bor}
 use Rattle.std.specs.Option.{option_map}
 use Rattle.vme_protocol.specs.declared.datum.Datum.{Datum}
 use Rattle.vme_protocol.specs.declared.rule.Rule.{Rule}
@@ -12,6 +11,7 @@ use Rattle.vme_protocol.specs.Watching.{answer_of, started, next_watch}
 use Rattle.vme_answers.specs.declared.wrong.Wrong.{Wrong}
 use Rattle.vme_answers.specs.Taking.{Judged, taken}
 use Rattle.vme_answers.specs.Wrongs.{wrong_of}
+use Rattle.vme_vcd_reader.specs.declared.control.ControlLine.{ControlLine}
 use Rattle.vme_judge.specs.declared.boards.Board.{Board}
 use Rattle.vme_judge.specs.declared.counts.Counts.{Counts}
 use Rattle.vme_judge.specs.declared.finding.Asked.TheVariants as askeds
@@ -83,7 +83,7 @@ slot_of boards None = None
 slot_of boards (Some index) = option_map (λ b. b.slot) (slice_get boards index)
 
 -- the finding at a sample that breaks a rule of the order
-abbrev pub order_finding : Spot → Option (Bor (List ℕ)) → Sample → Sample → Option OpenTransfer → Rule → Finding
+abbrev pub order_finding : Spot → Option ControlLine → Sample → Sample → Option OpenTransfer → Rule → Finding
 order_finding spot undefined before s transfer rule = record {
   line = spot.line;
   time = spot.time;
@@ -147,19 +147,19 @@ shown_judged spot before s m None = Stands (opened before s m)
 shown_judged spot before s m (Some d) = datum_judged spot before s d (noted d (opened before s m)) m.answers
 
 -- a trace after a sample, by the rule of the order that it breaks or the datum that it shows
-abbrev pub order_judged : Spot → Option (Bor (List ℕ)) → Watch → Sample → Standing → Result (Option Datum) Rule → Course
+abbrev pub order_judged : Spot → Option ControlLine → Watch → Sample → Standing → Result (Option Datum) Rule → Course
 order_judged spot undefined w s m (Err rule) =
     found_at m.once (order_finding spot undefined w.last s m.transfer rule) (counted w s m).counts None
 order_judged spot undefined w s m (Ok datum) =
     course_map (closed w.last s) (shown_judged spot w.last s (counted w s m) datum)
 
 -- a trace after a sample, by the samples before it
-abbrev pub sample_judged : Spot → Option (Bor (List ℕ)) → Sample → Standing → Option Watch → Course
+abbrev pub sample_judged : Spot → Option ControlLine → Sample → Standing → Option Watch → Course
 sample_judged spot undefined s m None = Stands (waited s m)
 sample_judged spot undefined s m (Some w) = order_judged spot undefined w s m (answer_of w s)
 
 -- a trace that stands, after a sample at a place; a control line may be undefined
-unfoldable pub sample_taken : Spot → Option (Bor (List ℕ)) → Sample → Standing → Course
+unfoldable pub sample_taken : Spot → Option ControlLine → Sample → Standing → Course
 sample_taken spot undefined s m = sample_judged spot undefined s m m.watch
 
 -- the same after samples at one place

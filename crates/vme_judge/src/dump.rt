@@ -2,7 +2,7 @@
 ghost use Rattle.std.specs.Prelude.{◌≡◌, true, None, replicate, IfOk};
 ghost use Rattle.vme_protocol.specs.Ports.{local_between};
 ghost use Rattle.vme_judge.specs.DumpRuns.{shown_by, Takes, TakesShown};
-ghost use Rattle.vme_judge.specs.Dumps.{breach_taken, done_taken, dump_scope, is_among, is_passed, port_taken, ports_after, ports_taken, slots_of, with_presence};
+ghost use Rattle.vme_judge.specs.Dumps.{breach_taken, done_taken, dump_scope, is_among, is_passed, port_taken, ports_after, ports_taken, slots_of, undefined_at, with_presence};
 ghost use Rattle.vme_judge.specs.Logs.{access_taken};
 ghost use Rattle.vme_judge.specs.Standing.{course_map, sample_taken, standing, state_of};
 
@@ -10,7 +10,7 @@ use crate::boards::Board;
 use crate::judge::{Judge, Spot};
 use std::alloc::AllocError;
 use vme_protocol::{Local, Port, Rule, Sample, Scope, local_access};
-use vme_vcd_reader::{BusLines, Presence, VcdReader};
+use vme_vcd_reader::{BusLines, ControlLine, Presence, VcdReader};
 
 /// The number of slots.
 const SLOTS: usize = 21;
@@ -86,7 +86,7 @@ impl Ports {
         changed: u32,
         spot: Spot,
     ) -> Result<bool, AllocError>
-        ensures judged { IfOk result (Takes judge.old judge.new (ports_taken (record spot { line = 0 }) bus.now changed 0 self.old.last)) }
+        ensures judged { IfOk result (Takes judge.old judge.new (ports_taken spot bus.now changed 0 self.old.last)) }
         ensures shown { IfOk result (λ goes_on. goes_on ≡ true → self.new.last ≡ ports_after bus.now changed 0 self.old.last) }
     {
         if changed == 0 {
@@ -118,7 +118,7 @@ fn take_port(
     now: &Port,
     spot: Spot,
 ) -> Result<bool, AllocError>
-    ensures { IfOk result (Takes judge.old judge.new (port_taken (record spot { line = 0 }) slot last now.now)) }
+    ensures { IfOk result (Takes judge.old judge.new (port_taken spot slot last now.now)) }
 {
     let Some(last) = last else {
         return Ok(true);
@@ -137,7 +137,7 @@ fn take_done(
     now: &Port,
     spot: Spot,
 ) -> Result<bool, AllocError>
-    ensures { IfOk result (Takes judge.old judge.new (done_taken (record spot { line = 0 }) slot (local_between last.now now.now))) }
+    ensures { IfOk result (Takes judge.old judge.new (done_taken spot slot (local_between last.now now.now))) }
 {
     match local_access(last, now) {
         Ok(None) => Ok(true),
@@ -153,7 +153,7 @@ fn take_access(
     access: &Local,
     spot: Spot,
 ) -> Result<bool, AllocError>
-    ensures { IfOk result (Takes judge.old judge.new (access_taken (record spot { line = 0 }) slot access.now)) }
+    ensures { IfOk result (Takes judge.old judge.new (access_taken spot slot access.now)) }
 {
     if judge.access(slot, access, spot)? {
         return Ok(true);
@@ -163,7 +163,7 @@ fn take_access(
 
 /// Takes a rule that a local port breaks.
 fn take_breach(judge: &mut Judge<'_>, slot: u8, rule: Rule, spot: Spot) -> Result<bool, AllocError>
-    ensures { IfOk result (Takes judge.old judge.new (breach_taken (record spot { line = 0 }) slot rule)) }
+    ensures { IfOk result (Takes judge.old judge.new (breach_taken spot slot rule)) }
 {
     judge.port_breaks(rule, slot, spot);
     judge.goes_on()
@@ -174,9 +174,9 @@ fn take_lines(
     judge: &mut Judge<'_>,
     sample: &Sample,
     spot: Spot,
-    undefined: Option<&'static str>,
+    undefined: Option<ControlLine>,
 ) -> Result<bool, AllocError>
-    ensures { IfOk result (Takes judge.old judge.new (sample_taken (record spot { line = 0 }) None sample.now)) }
+    ensures { IfOk result (Takes judge.old judge.new (sample_taken spot undefined sample.now)) }
 {
     if judge.take(sample, spot, undefined)? {
         return Ok(true);
@@ -190,6 +190,17 @@ fn is_passed(judge: &Judge<'_>, vcd: &VcdReader<'_>) -> bool
     ensures { result ≡ is_passed judge.now.options.now (shown_by vcd.now) (state_of judge.now) }
 {
     !vcd.is_changed() && judge.options.timeout.is_none() && judge.is_judging()
+}
+
+/// A control line that is undefined at a sample, if the sample is one with such a line.
+fn undefined_at(bus: &BusLines, undefined: bool) -> Option<ControlLine>
+    ensures { result ≡ undefined_at bus.now undefined }
+{
+    if undefined {
+        bus.undefined_line()
+    } else {
+        None
+    }
 }
 
 /// Takes the sample that a reader has completed, and returns whether the judgement goes on.
@@ -215,11 +226,7 @@ pub(crate) fn take_sample(
     };
     let bus = vcd.bus();
     let sample = bus.sample(time);
-    let undefined = if sample.undefined {
-        bus.undefined_line()
-    } else {
-        None
-    };
+    let undefined = undefined_at(bus, sample.undefined);
     let goes_on = take_lines(judge, &sample, spot, undefined)?;
     if !goes_on {
         return Ok(false);

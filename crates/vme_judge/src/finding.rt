@@ -5,6 +5,7 @@ ghost use Rattle.vme_judge.specs.Messages.{broken_rule};
 use crate::transfer::OpenTransfer;
 use vme_answers::Wrong;
 use vme_protocol::{Datum, Local, Rule, Sample};
+use vme_vcd_reader::ControlLine;
 
 /// What a board's memory was asked for.
 #[derive(Clone, Copy, Debug)]
@@ -35,7 +36,7 @@ pub(crate) struct Finding {
     pub(crate) samples: Option<(Sample, Sample)>,
     pub(crate) transfer: Option<OpenTransfer>,
     /// A control line that is undefined.
-    pub(crate) undefined: Option<&'static str>,
+    pub(crate) undefined: Option<ControlLine>,
 }
 
 impl Finding {

@@ -15,6 +15,7 @@ use std::alloc::{AllocError, Global};
 use vme_answers::{Answers, Wrong};
 use vme_bus_log::print_datum;
 use vme_protocol::{Datum, Rule, Sample, Scope, Transfer, Watch};
+use vme_vcd_reader::ControlLine;
 
 /// The place of a sample in the trace.
 #[derive(Clone, Copy, Debug)]
@@ -68,10 +69,10 @@ impl Judge<'_> {
         &mut self,
         sample: &Sample,
         spot: Spot,
-        undefined: Option<&'static str>,
+        undefined: Option<ControlLine>,
     ) -> Result<bool, AllocError>
         ensures standing { IfOk result (λ _.
-            standing self.new ≡ course_then (sample_taken spot undefined.entry sample.now) (standing self.old)) }
+            standing self.new ≡ course_then (sample_taken spot undefined sample.now) (standing self.old)) }
         ensures legal { IfOk result (λ legal. IsStanding (standing self.old) → legal ≡ stands (standing self.new)) }
         ensures task { IfOk result (λ _. KeepsTask self.old self.new) }
     {
@@ -86,13 +87,13 @@ impl Judge<'_> {
         &mut self,
         sample: &Sample,
         spot: Spot,
-        undefined: Option<&'static str>,
+        undefined: Option<ControlLine>,
     ) -> Result<bool, AllocError>
         ensures task { IfOk result (λ _. KeepsTask self.old self.new) }
         ensures legal { IfOk result (λ legal. IsNone self.old.finding → legal ≡ is_none self.new.finding) }
         ensures step { IfOk result (λ _. IsNone self.old.finding → self.old.found ≡ 0 →
             found_by self.new.finding (state_of self.new)
-            ≡ sample_judged spot undefined.entry sample.now (state_of self.old) self.old.watch) }
+            ≡ sample_judged spot undefined sample.now (state_of self.old) self.old.watch) }
     {
         let Some(watch) = self.watch.as_mut() else {
             self.leave_out(sample);
@@ -117,11 +118,11 @@ impl Judge<'_> {
         spot: Spot,
         before: &Sample,
         sample: &Sample,
-        undefined: Option<&'static str>,
+        undefined: Option<ControlLine>,
     )
         ensures task { KeepsTask self.old self.new }
         ensures found { self.new.finding ≡
-            Some (order_finding spot undefined.entry before.now sample.now self.old.transfer rule) }
+            Some (order_finding spot undefined before.now sample.now self.old.transfer rule) }
         ensures counts { self.new.counts ≡ self.old.counts }
         ensures transfer { self.new.transfer ≡ None }
     {
@@ -205,7 +206,7 @@ impl Judge<'_> {
         spot: Spot,
         broken: Broken,
         samples: Option<(Sample, Sample)>,
-        undefined: Option<&'static str>,
+        undefined: Option<ControlLine>,
     )
         ensures { self.new ≡ record self.old {
           finding = Some (record {
@@ -214,7 +215,7 @@ impl Judge<'_> {
             broken = broken;
             samples = samples;
             transfer = self.old.transfer;
-            undefined = undefined.entry;
+            undefined = undefined;
           });
         } }
     {

@@ -9,7 +9,7 @@ ghost use Rattle.vme_vcd_reader.specs.Bodies.{Reading};
 ghost use Rattle.vme_vcd_reader.specs.Headers.{Heading, beginning};
 ghost use Rattle.vme_vcd_reader.specs.Mapping.{Declaration};
 ghost use Rattle.vme_vcd_reader.specs.Readers.{IsHeader, IsReading};
-ghost use Rattle.vme_judge.specs.Blanks.{AreBlanks, IsBlankLine, IsBlankSoFar, SkipsBlanks, TakesBlanks, TakesFirst, TakesFurther};
+ghost use Rattle.vme_judge.specs.Blanks.{AreBlanks, IsAtStart, IsBlankLine, IsBlankSoFar, line_past, SkipsBlanks, TakesBlanks, TakesFirst, TakesFurther};
 ghost use Rattle.vme_judge.specs.DumpRuns.{dump_so_far, EndsDump, EndsHeader, HasReached, Reached, TakesPiece};
 ghost use Rattle.vme_judge.specs.Dumps.{Legal as LegalDump};
 ghost use Rattle.vme_judge.specs.Logs.{is_broken};
@@ -64,7 +64,7 @@ impl<'a> Run<'a> {
     ) -> Result<Run<'a>, AllocError>
         ensures opens { IfOk result (λ run. run_so_far run ≡ LegalSoFar (opening options.now boards.now) None) }
         ensures dump { IfOk result (λ run. dump_so_far run ≡ LegalDump (opening options.now boards.now) (replicate 21 None)) }
-        ensures reader { IfOk result (λ run. IsHeader map.now beginning [] run.vcd) }
+        ensures reader { IfOk result (λ run. IsAtStart map.now run.vcd) }
         ensures going { IfOk result IsGoing }
         ensures options { IfOk result (λ run. run.judge.options.now ≡ options.now) }
         ensures found { IfOk result (λ run. run.judge.found ≡ 0) }
@@ -307,8 +307,9 @@ fn form_of(bytes: &[u8]) -> Kind
 
 /// Takes blanks of a dump: one before its first word says nothing.
 fn skip_blanks(vcd: &mut VcdReader<'_>, blanks: &[u8]) -> Result<(), AllocError>
-    ensures { (map : Map) → AreBlanks blanks.now → IsHeader map beginning [] vcd.old →
+    ensures reader { (map : Map) → AreBlanks blanks.now → IsHeader map beginning [] vcd.old →
         IfOk result (λ _. IsHeader map beginning [] vcd.new) }
+    ensures line { IfOk result (λ _. vcd.new.line ≡ line_past blanks.now vcd.old.line) }
 {
     for byte in blanks {
         let Ok(_step) = vcd.push(*byte) else {

@@ -8,6 +8,7 @@ use std::alloc::AllocError;
 use std::fmt::Write;
 use vme_answers::Wrong;
 use vme_protocol::{Datum, Local, Rule, Sample};
+use vme_vcd_reader::ControlLine;
 
 /// Appends what is wrong.
 ///
@@ -44,13 +45,20 @@ fn write_order(finding: &Finding, rule: Rule, to: &mut String) -> Result<(), All
 }
 
 /// Appends which line is undefined, if it is known.
-fn write_undefined(line: Option<&'static str>, to: &mut String) -> Result<(), AllocError>
-    ensures { OnOk result (string_bytes to.new ≡ string_bytes to.old ++ undefined_text line.entry) }
+fn write_undefined(line: Option<ControlLine>, to: &mut String) -> Result<(), AllocError>
+    ensures { OnOk result (string_bytes to.new ≡ string_bytes to.old ++ undefined_text line) }
 {
     match line {
-        Some(line) => write!(to, "{line} is undefined"),
+        Some(line) => write_undefined_line(line.name(), to),
         None => to.push_str(Rule::Undefined.text()),
     }
+}
+
+/// Appends that a line is undefined.
+fn write_undefined_line(name: &str, to: &mut String) -> Result<(), AllocError>
+    ensures { OnOk result (string_bytes to.new ≡ string_bytes to.old ++ (name.now ++ codes " is undefined")) }
+{
+    write!(to, "{name} is undefined")
 }
 
 /// The slots that drive BBSY* at the sample of a finding.

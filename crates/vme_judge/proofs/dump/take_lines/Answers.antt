@@ -1,19 +1,16 @@
-use Rattle.std.proofs.Common.{None}
 use Rattle.vme_judge.specs.Standing.{sample_taken}
-use Rattle.vme_judge.proofs.Dumps.{sample_placeless, takes_legal, takes_wrong}
+use Rattle.vme_judge.proofs.Dumps.{takes_legal, takes_wrong}
 use Rattle.vme_judge.proofs.dump.take_lines.Goals as goal
 
 pub returns-then-branch : goal.returns-then-branch
 returns-then-branch c =
     takes_legal c.args.judge.now c.take.new.self (sample_taken c.args.spot c.args.undefined c.args.sample.now)
-    (sample_taken (record c.args.spot { line = 0 }) None c.args.sample.now) c.in_ok-take.field-0 c.if-branch.true (sample_placeless c.args.spot c.args.undefined c.args.sample.now)
-    c.in_ok-take.ensures.standing c.in_ok-take.ensures.legal c.in_ok-take.ensures.task
+    c.in_ok-take.field-0 c.if-branch.true c.in_ok-take.ensures.standing c.in_ok-take.ensures.legal c.in_ok-take.ensures.task
 
 pub returns : goal.returns
 returns c =
     takes_wrong c.args.judge.now c.take.new.self c.goes_on.new.self (sample_taken c.args.spot c.args.undefined c.args.sample.now)
-    (sample_taken (record c.args.spot { line = 0 }) None c.args.sample.now) c.in_ok-take.field-0 c.goes_on.result c.if-branch.false (sample_placeless c.args.spot c.args.undefined c.args.sample.now)
-    c.in_ok-take.ensures.standing c.in_ok-take.ensures.legal c.in_ok-take.ensures.task (record {
+    c.in_ok-take.field-0 c.goes_on.result c.if-branch.false c.in_ok-take.ensures.standing c.in_ok-take.ensures.legal c.in_ok-take.ensures.task (record {
       stands = c.goes_on.ensures.stands;
       stops = c.goes_on.ensures.stops;
       once = c.goes_on.ensures.once;

@@ -1,5 +1,5 @@
 use Rattle.vme_judge.specs.DumpRuns.{shown_by}
-use Rattle.vme_judge.proofs.DumpSamples.{shown_passed, shown_read, shown_stopped}
+use Rattle.vme_judge.proofs.DumpSamples.{reads, shown_passed, shown_read, stopped_read}
 use Rattle.vme_judge.proofs.dump.take_sample.Goals as goal
 
 pub returns-then-is_passed : goal.returns-then-is_passed
@@ -9,13 +9,17 @@ returns-then-is_passed c =
 
 pub returns-then-not-goes_on : goal.returns-then-not-goes_on
 returns-then-not-goes_on c =
-    shown_stopped c.args.judge.now c.take_lines.new.judge c.args.ports.now.last (shown_by c.args.vcd.now) c.sample-sample.result
-    c.bus-bus.result.now c.time-time.result c.is_passed.result c.in_ok-goes_on.goes_on c.is_passed.ensures c.if-is_passed.false
-    c.sample-sample.ensures c.bus-bus.ensures c.time-time.ensures c.in_ok-goes_on.ensures c.if-not-goes_on.true
+    stopped_read (shown_by c.args.vcd.now) c.sample-sample.result c.undefined_at-undefined.result c.bus-bus.result.now c.sample_line.result
+    c.time-time.result _
+    (reads _ _ _ _ _ _ c.sample-sample.ensures c.undefined_at-undefined.ensures c.bus-bus.ensures c.sample_line.ensures c.time-time.ensures)
+    c.args.judge.now c.take_lines.new.judge c.args.ports.now.last c.is_passed.result c.in_ok-goes_on.goes_on c.is_passed.ensures
+    c.if-is_passed.false c.in_ok-goes_on.ensures c.if-not-goes_on.true
 
 pub returns : goal.returns
 returns c =
-    shown_read c.args.judge.now c.take_lines.new.judge c.take.new.judge c.args.ports.now.last c.take.new.self.last (shown_by c.args.vcd.now)
-    c.sample-sample.result c.bus-bus.result.now c.time-time.result c.changed_ports.result c.is_passed.result c.in_ok-goes_on.goes_on c.take.result
-    c.is_passed.ensures c.if-is_passed.false c.sample-sample.ensures c.bus-bus.ensures c.time-time.ensures c.changed_ports.ensures
+    shown_read (shown_by c.args.vcd.now) c.sample-sample.result c.undefined_at-undefined.result c.bus-bus.result.now c.sample_line.result
+    c.time-time.result _
+    (reads _ _ _ _ _ _ c.sample-sample.ensures c.undefined_at-undefined.ensures c.bus-bus.ensures c.sample_line.ensures c.time-time.ensures)
+    c.args.judge.now c.take_lines.new.judge c.take.new.judge c.args.ports.now.last c.take.new.self.last c.changed_ports.result
+    c.is_passed.result c.in_ok-goes_on.goes_on c.take.result c.is_passed.ensures c.if-is_passed.false c.changed_ports.ensures
     c.in_ok-goes_on.ensures c.if-not-goes_on.false c.take.ensures.judged c.take.ensures.shown

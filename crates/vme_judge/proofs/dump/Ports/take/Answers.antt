@@ -5,7 +5,7 @@ use Rattle.vme_judge.proofs.dump.Ports.take.Goals as goal
 
 pub returns-then-changed-eq0-clause-judged : goal.returns-then-changed-eq0-clause-judged
 returns-then-changed-eq0-clause-judged c =
-    takes_none c.args.judge.now (record c.args.spot { line = 0 }) c.args.bus.now c.args.changed 0 c.args.self.now.last c.if-changed-eq0.true
+    takes_none c.args.judge.now c.args.spot c.args.bus.now c.args.changed 0 c.args.self.now.last c.if-changed-eq0.true
 
 pub returns-then-changed-eq0-clause-shown : goal.returns-then-changed-eq0-clause-shown
 returns-then-changed-eq0-clause-shown c = λ goes_on.
@@ -21,7 +21,7 @@ loop-place-preserved-then-not-is_among c =
       whole = c.loop-place.invariant.whole;
       judged =
           c.loop-place.invariant.judged
-          ∙ skips_port (record c.args.spot { line = 0 }) c.args.bus.now c.args.changed c.loop-place.place c.loop-place.self.last _ less
+          ∙ skips_port c.args.spot c.args.bus.now c.args.changed c.loop-place.place c.loop-place.self.last _ less
           (sym c.is_among.ensures ∙ c.if-not-is_among.true);
       shown =
           c.loop-place.invariant.shown
@@ -34,7 +34,7 @@ loop-place-preserved-then-not-is_among c =
 pub returns-clause-judged : goal.returns-clause-judged
 returns-clause-judged c =
     let all : length c.loop-place.self.last ≤ c.loop-place.place = omega arith in
-    ports_ended c.args.judge.now c.loop-place.judge (record c.args.spot { line = 0 }) c.args.bus.now c.args.changed c.loop-place.place c.args.self.now.last c.loop-place.self.last
+    ports_ended c.args.judge.now c.loop-place.judge c.args.spot c.args.bus.now c.args.changed c.loop-place.place c.args.self.now.last c.loop-place.self.last
     all c.loop-place.invariant.judged c.loop-place.invariant.options c.loop-place.invariant.once
 
 pub returns-clause-shown : goal.returns-clause-shown

@@ -1,6 +1,5 @@
 use Rattle.std.proofs.Common.{◌≡◌, ◌++◌, take, drop, length}
 use Rattle.vme_judge.specs.Dumps.{ports_after, ports_taken}
-use Rattle.vme_judge.specs.DumpRuns.{placeless}
 use Rattle.vme_judge.specs.Standing.{course_then, standing, IsOnce, IsStanding}
 use Rattle.vme_judge.proofs.dump.Ports.take.Given as goal
 
@@ -8,8 +7,8 @@ use Rattle.vme_judge.proofs.dump.Ports.take.Given as goal
 abbrev pub invariant-loop-place : goal.invariant-loop-place
 invariant-loop-place l = record {
   whole : length l.self.last ≡ 21;
-  judged : course_then (ports_taken (record l.spot { line = 0 }) l.bus l.changed 0 l.fn.self.last) (placeless l.fn.judge)
-      ≡ course_then (ports_taken (record l.spot { line = 0 }) l.bus l.changed l.place (drop l.place l.self.last)) (placeless l.judge);
+  judged : course_then (ports_taken l.spot l.bus l.changed 0 l.fn.self.last) (standing l.fn.judge)
+      ≡ course_then (ports_taken l.spot l.bus l.changed l.place (drop l.place l.self.last)) (standing l.judge);
   shown : ports_after l.bus l.changed 0 l.fn.self.last
       ≡ take l.place l.self.last ++ ports_after l.bus l.changed l.place (drop l.place l.self.last);
   options : l.judge.options ≡ l.fn.judge.options;

@@ -13,5 +13,5 @@ pub returns-clause-first : goal.returns-clause-first
 returns-clause-first c = λ map line form is.
     let skips = c.in_ok-push_blanks.ensures.blanks map line c.cut_blanks.ensures.blanks is in
     dump_begun map line c.args.self.now c.push_blanks.new.self c.push_dump_all.new.self c.args.bytes.now c.cut_blanks.result.0.now c.cut_blanks.result.1.now
-    c.in_ok-push_blanks.field-0 c.push_dump_all.result c.if-not-branch.false skips.takes c.cut_blanks.ensures.blanks
+    c.in_ok-push_blanks.field-0 c.push_dump_all.result c.if-not-branch.false skips.takes skips.counts c.cut_blanks.ensures.blanks
     (c.cut_blanks.ensures.first form) c.cut_blanks.ensures.parts (c.push_dump_all.ensures.dump map (InHeader beginning []) skips.reader)

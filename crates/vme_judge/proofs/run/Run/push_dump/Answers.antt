@@ -6,7 +6,7 @@ use Rattle.vme_judge.proofs.run.Run.push_dump.Goals as goal
 pub returns-in-Ok-clause-dump : goal.returns-in-Ok-clause-dump
 returns-in-Ok-clause-dump c map (InHeader h ds) is =
     heading_judged map c.args.self.now c.take_step.new.self c.push.new.self h ds c.args.byte c.in-Ok.step c.take_step.result
-    (c.in-Ok.ensures.heading map h ds is) c.take_step.ensures.sample c.take_step.ensures.header c.take_step.ensures.more
+    (c.in-Ok.ensures.heading map h ds is) c.in-Ok.ensures.line c.take_step.ensures.sample c.take_step.ensures.header c.take_step.ensures.more
 returns-in-Ok-clause-dump c map (InBody r) is =
     byte_judged map c.args.self.now c.take_step.new.self c.push.new.self r c.args.byte c.in-Ok.step c.take_step.result
     (c.in-Ok.ensures.says r is) (c.push.ensures.rows r is) c.take_step.ensures.sample
