@@ -2,10 +2,11 @@
 use Rattle.std.specs.Prelude.{ℕ, ◌≡◌, ◌≤◌, ◌+◌, Bool, true, false, List, [], ◌∷◌, length, Option, Some, None}
 use Rattle.vme_memory.specs.declared.reply.Reply.{Reply}
 use Rattle.vme_core.specs.declared.event.EventReply.{EventReply}
+use Rattle.vme_core.specs.declared.event.EventReply.TheVariants as replies
 use Rattle.vme_core.specs.Calls.{call_of}
 use Rattle.vme_core.specs.NextSteps.{call_in}
 use Rattle.vme_core.specs.Runs.{Transition}
-use Rattle.vme_master.specs.Jobs.{request_expected, error_outcome}
+use Rattle.vme_master.specs.Jobs.{datum_call, request_expected, error_outcome}
 use Rattle.vme_master.specs.declared.expected.ExpectedReply.TheVariants as expected_replies
 use Rattle.vme_master.specs.declared.outcome.Outcome.{Outcome}
 use Rattle.vme_master.specs.declared.outcome.Outcome.TheVariants as outcomes
@@ -24,9 +25,10 @@ use Rattle.vme_threads.specs.declared.read.ReadEnd.{ReadEnd}
 use Rattle.vme_threads.specs.declared.read.ReadEnd.TheVariants as ends
 use Rattle.vme_threads.specs.declared.take.Taken.{Taken}
 use Rattle.vme_threads.specs.declared.take.Taken.TheVariants as takens
+use Rattle.vme_threads.specs.declared.read.BoardRead.{BoardRead}
 use Rattle.vme_threads.specs.declared.read.BusRead.{BusRead}
 use Rattle.vme_threads.specs.declared.processor_pass.ProcessorPass.{ProcessorPass}
-use Rattle.vme_threads.specs.ProcessorPasses.{AddsTransitions}
+use Rattle.vme_threads.specs.ProcessorPasses.{AddsCall, AddsTransitions}
 
 -- the job of a read
 abbrev pub job_of : BusRead → BusJob
@@ -85,6 +87,12 @@ pub record IsTaken (n : ℕ) (reply : Reply) (old new : List ℕ) (taken : Taken
       (job : BusJob) (i : ℕ) → request_expected job.transfer.request ≡ expected_replies.Read n
       → task_replied (read_task job (Transferring i) old) i reply ≡ read_task job (phase_taken job i taken) new
   pub len : length new ≤ length old + n
+
+-- a processor read datum i of a read on its board: it made the datum's call, and took the reply
+pub record ReadsDatum (read : BoardRead) (i : ℕ) (before after : ProcessorPass) (old new : List ℕ) (taken : Taken) : Type 0 where
+  pub reply : Reply
+  pub made : AddsCall (datum_call (job_of read.bus.now) read.bus.now.place i) (replies.Board reply) before after
+  pub took : IsTaken read.n reply old new taken
 
 -- a read that waits for bytes is in progress, before one of its attempts: a run of its events was made
 pub record IsAwaitInProgress (config : Configuration) (line : Line) (before now : ProcessorPass) (job : BusJob) (want : List ℕ)

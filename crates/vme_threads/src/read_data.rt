@@ -1,12 +1,10 @@
 //! The data of a read over the bus, each by one operation on the board.
 ghost use Rattle.std.specs.Prelude.{◌≡◌, ◌<◌, ◌≤◌, ◌*◌, ◌++◌, [], length, Some, IfOk, IfSome};
 ghost use Rattle.vme_cycle.specs.Requests.{count_of};
-ghost use Rattle.vme_core.specs.declared.event.EventReply.TheVariants as replies;
 ghost use Rattle.vme_master.specs.declared.job.Job.TheVariants as jobs;
-ghost use Rattle.vme_master.specs.Jobs.{datum_call};
 ghost use Rattle.vme_master.specs.Machine.{phase_at};
-ghost use Rattle.vme_threads.specs.ProcessorPasses.{MatchesPorts, AddsCall};
-ghost use Rattle.vme_threads.specs.Reads.{job_of, read_task, phase_read, RunsTask};
+ghost use Rattle.vme_threads.specs.ProcessorPasses.{MatchesPorts};
+ghost use Rattle.vme_threads.specs.Reads.{job_of, read_task, phase_read, ReadsDatum, RunsTask};
 
 use crate::ports::Ports;
 use crate::processor_pass::ProcessorPass;
@@ -14,7 +12,6 @@ use crate::read::{BoardRead, BusRead, ReadEnd};
 use crate::take::{Gathered, Taken, make_room, take};
 use std::sync::Wait;
 use vme_cycle::BlockBuffer;
-use vme_memory::Reply;
 use vme_port::Spent;
 
 impl ProcessorPass {
@@ -122,8 +119,7 @@ impl ProcessorPass {
     {
         for i in 0..count {
             make_room(gathered, bytes);
-            let reply = self.read_datum(rt, ports, read, i)?;
-            match take(&reply, read.n, gathered) {
+            match self.read_datum(rt, ports, read, i, gathered)? {
                 Taken::Bytes => {}
                 Taken::Berr => return Ok(ReadEnd::Ended { berr: Some(i) }),
                 Taken::Denied => return Ok(ReadEnd::Denied),
@@ -132,7 +128,7 @@ impl ProcessorPass {
         Ok(ReadEnd::Ended { berr: None })
     }
 
-    /// Reads datum `i` on its board, and returns the board's reply.
+    /// Reads datum `i` on its board, and appends its bytes to those that were gathered.
     ///
     /// # Errors
     /// `Spent` if the board has made 2^64 - 1 steps.
@@ -143,16 +139,17 @@ impl ProcessorPass {
         ports: &Ports,
         read: &BoardRead<'_>,
         i: u16,
-    ) -> Result<Reply, Spent>
+        gathered: &mut Gathered,
+    ) -> Result<Taken, Spent>
         requires fits { MatchesPorts ports.now self.old }
         requires there { read.now.board < self.old.boards }
         requires in_count { i < count_of read.now.bus.now.transfer.request }
-        ensures { IfOk result (λ reply.
-            AddsCall (datum_call (job_of read.now.bus.now) read.now.bus.now.place i) (replies.Board reply) self.old self.new) }
+        requires room { length gathered.old.items ≤ 56 }
+        ensures { IfOk result (ReadsDatum read.now i self.old self.new gathered.old.items gathered.new.items) }
     {
         match self.try_board(ports, read.board, &read.datum(i))? {
-            Some(reply) => Ok(reply),
-            None => self.wait_datum(rt, ports, *read, i),
+            Some(reply) => Ok(take(&reply, read.n, gathered)),
+            None => self.wait_datum(rt, ports, *read, i, gathered),
         }
     }
 
@@ -169,13 +166,15 @@ impl ProcessorPass {
         ports: &Ports,
         read: BoardRead<'_>,
         i: u16,
-    ) -> Result<Reply, Spent>
+        gathered: &mut Gathered,
+    ) -> Result<Taken, Spent>
         requires fits { MatchesPorts ports.now self.old }
         requires there { read.board < self.old.boards }
         requires in_count { i < count_of read.bus.now.transfer.request }
-        ensures { IfOk result (λ reply.
-            AddsCall (datum_call (job_of read.entry.bus.now) read.entry.bus.now.place i) (replies.Board reply) self.old self.new) }
+        requires room { length gathered.old.items ≤ 56 }
+        ensures { IfOk result (ReadsDatum read.entry i self.old self.new gathered.old.items gathered.new.items) }
     {
-        self.call_board(rt, ports, read.board, &read.datum(i))
+        let reply = self.call_board(rt, ports, read.board, &read.datum(i))?;
+        Ok(take(&reply, read.n, gathered))
     }
 }

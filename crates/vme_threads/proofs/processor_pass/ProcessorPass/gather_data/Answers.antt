@@ -23,15 +23,15 @@ loop-i-preserved g c =
     let bytes = c.loop-i.bytes.items ++ c.loop-i.gathered.items in
     let before = c.make_room.new.bytes.items in
     let old = c.make_room.new.gathered.items in
-    let new = c.take.new.gathered.items in
+    let new = c.read_datum.new.gathered.items in
     record {
       runs =
-          reads_on (job_of read.bus.now) read.board read.offset c.loop-i.i read.n c.in_ok-reply.reply c.args.self.now c.loop-i.self
-          c.read_datum.new.self bytes before old new c.take.result takens.Bytes c.in-Bytes.is read.place
+          reads_on (job_of read.bus.now) read.board read.offset c.loop-i.i read.n c.in_ok-read_datum.ensures.reply c.args.self.now c.loop-i.self
+          c.read_datum.new.self bytes before old new c.in_ok-read_datum.field-0 takens.Bytes c.in-Bytes.is read.place
           (omega (arith, c.loop-i-test.true, c.requires.count))
           (read.bus.now.is.expected ∙ ap expected_replies.Read (sym read.len)) c.make_room.ensures.bytes c.loop-i.invariant.runs
-          c.in_ok-reply.ensures c.take.ensures;
-      len = len_next read.n c.loop-i.i bytes before old new c.loop-i.invariant.len c.make_room.ensures.bytes c.take.ensures.len;
+          c.in_ok-read_datum.ensures.made c.in_ok-read_datum.ensures.took;
+      len = len_next read.n c.loop-i.i bytes before old new c.loop-i.invariant.len c.make_room.ensures.bytes c.in_ok-read_datum.ensures.took.len;
       capacity = c.make_room.ensures.capacity ∙ c.loop-i.invariant.capacity;
     }
 
@@ -46,21 +46,21 @@ read_datum-requires-clause-fits g c =
 pub returns-in-Berr-clause-runs : goal.returns-in-Berr-clause-runs
 returns-in-Berr-clause-runs g c =
     let read = c.args.read.now in
-    reads_on (job_of read.bus.now) read.board read.offset c.loop-i.i read.n c.in_ok-reply.reply c.args.self.now c.loop-i.self
+    reads_on (job_of read.bus.now) read.board read.offset c.loop-i.i read.n c.in_ok-read_datum.ensures.reply c.args.self.now c.loop-i.self
     c.read_datum.new.self (c.loop-i.bytes.items ++ c.loop-i.gathered.items) c.make_room.new.bytes.items
-    c.make_room.new.gathered.items c.take.new.gathered.items c.take.result takens.Berr c.in-Berr.is read.place
+    c.make_room.new.gathered.items c.read_datum.new.gathered.items c.in_ok-read_datum.field-0 takens.Berr c.in-Berr.is read.place
     (omega (arith, c.loop-i-test.true, c.requires.count)) (read.bus.now.is.expected ∙ ap expected_replies.Read (sym read.len))
-    c.make_room.ensures.bytes c.loop-i.invariant.runs c.in_ok-reply.ensures c.take.ensures
+    c.make_room.ensures.bytes c.loop-i.invariant.runs c.in_ok-read_datum.ensures.made c.in_ok-read_datum.ensures.took
 
 -- a reply that does not fit ends the data
 pub returns-in-Denied-clause-runs : goal.returns-in-Denied-clause-runs
 returns-in-Denied-clause-runs g c =
     let read = c.args.read.now in
-    reads_on (job_of read.bus.now) read.board read.offset c.loop-i.i read.n c.in_ok-reply.reply c.args.self.now c.loop-i.self
+    reads_on (job_of read.bus.now) read.board read.offset c.loop-i.i read.n c.in_ok-read_datum.ensures.reply c.args.self.now c.loop-i.self
     c.read_datum.new.self (c.loop-i.bytes.items ++ c.loop-i.gathered.items) c.make_room.new.bytes.items
-    c.make_room.new.gathered.items c.take.new.gathered.items c.take.result takens.Denied c.in-Denied.is read.place
+    c.make_room.new.gathered.items c.read_datum.new.gathered.items c.in_ok-read_datum.field-0 takens.Denied c.in-Denied.is read.place
     (omega (arith, c.loop-i-test.true, c.requires.count)) (read.bus.now.is.expected ∙ ap expected_replies.Read (sym read.len))
-    c.make_room.ensures.bytes c.loop-i.invariant.runs c.in_ok-reply.ensures c.take.ensures
+    c.make_room.ensures.bytes c.loop-i.invariant.runs c.in_ok-read_datum.ensures.made c.in_ok-read_datum.ensures.took
 
 -- all data were read
 pub returns-clause-runs : goal.returns-clause-runs
