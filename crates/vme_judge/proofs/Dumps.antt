@@ -1,5 +1,5 @@
 -- A sample of a dump, and what the local ports have done at it.
-use Rattle.std.proofs.Common.{◌≡◌, ℕ, ◌+◌, ◌^◌, ◌%◌, ◌<◌, ◌≤◌, Bool, true, false, not, ◌==◌, ◌||◌, List, [], ◌∷◌, ◌++◌, append_assoc, length, get_or, take, drop, Option, Some, None, is_some, Result, Ok, Err, IfOk, Bor, refl, ap, sym, ◌∙◌}
+use Rattle.std.proofs.Common.{◌≡◌, ℕ, ◌+◌, ◌^◌, ◌%◌, ◌<◌, ◌≤◌, Bool, true, false, not, ◌==◌, ◌||◌, List, [], ◌∷◌, ◌++◌, append_assoc, length, get_or, take, drop, Option, Some, None, is_some, Result, Ok, Err, IfOk, Bor, IsNone, IsSome, refl, ap, sym, ◌∙◌}
 use Rattle.std.specs.Prelude.{bit_and, if◌then◌else◌}
 use Rattle.std.specs.declared.alloc.AllocError.{AllocError}
 use Rattle.std.proofs.Math.ListN.{drop_of_length-le}
@@ -19,24 +19,37 @@ use Rattle.vme_judge.specs.declared.judge.Spot.{Spot}
 use Rattle.vme_judge.specs.declared.options.Options.{Options}
 use Rattle.vme_judge.specs.DumpRuns.{Takes}
 use Rattle.vme_judge.specs.Dumps.{breach_taken, done_taken, dump_scope, is_among, port_at, port_taken, ports_after, ports_taken, slots_of, with_presence}
-use Rattle.vme_judge.specs.Standing.{Course, Falls, HasFallen, IsStanding, Standing, Stands, course_map, course_then, found_by, standing, standing_of, stands, state_of, IsOnce, KeepsTask}
+use Rattle.vme_judge.specs.Standing.{Course, Falls, HasFallen, IsStanding, Standing, Stands, course_map, course_then, standing, standing_of, stands, state_of, IsOnce, KeepsTask}
 use Rattle.vme_judge.proofs.Logs.{then_fallen}
 
 -- what is remembered is changed, by whether something was found before
 map_by : (f : Standing → Standing) (found : ℕ) (finding : Option Finding) (m : Standing) (test : Bool) → (found == 0) ≡ test
-    → ((finding : Finding) → found_by (Some finding) (f m) ≡ found_by (Some finding) m)
-    → standing_of found finding (f m) ≡ course_map f (standing_of found finding m)
-map_by f found finding m false is same = rw is refl
-map_by f found None m true is same = rw is refl
-map_by f found (Some finding) m true is same = rw is (same finding)
+    → IsNone finding → standing_of found finding (f m) ≡ course_map f (standing_of found finding m)
+map_by f found finding m false is none = rw is refl
+map_by f found None m true is none = rw is refl
+map_by f found (Some finding) m true is none = absurd (cc none)
+
+-- after a finding nothing is changed
+unchanged_by : (f : Standing → Standing) (found : ℕ) (finding : Option Finding) (m : Standing) (test : Bool) → (found == 0) ≡ test
+    → IsSome finding → standing_of found finding m ≡ course_map f (standing_of found finding m)
+unchanged_by f found finding m false is some = rw is refl
+unchanged_by f found None m true is some = absurd (cc some)
+unchanged_by f found (Some finding) m true is some = rw is refl
+
+-- what is remembered is not changed after a finding
+pub unchanged : (judge : Judge) (f : Standing → Standing) → IsSome judge.finding → standing judge ≡ course_map f (standing judge)
+unfolding standing
+unchanged judge f some = unchanged_by f judge.found judge.finding (state_of judge) (judge.found == 0) refl some
 
 -- what is remembered once it is known which lines a dump has
-pub scoped : (old : Judge) (p : Presence) (slots : ℕ) (scope : Scope) → slots ≡ slots_of old.boards.now → scope ≡ dump_scope p slots old.scope
-    → standing (record old { scope = scope }) ≡ course_map (with_presence p) (standing old)
+pub scoped : (old : Judge) (p : Presence) (slots : ℕ) (scope : Scope) → IsNone old.finding → slots ≡ slots_of old.boards.now
+    → scope ≡ dump_scope p slots old.scope
+    → standing (record old { scope = scope; presence = p }) ≡ course_map (with_presence p) (standing old)
 unfolding standing
-scoped old p slots scope is now =
-    ap (λ scope. standing_of old.found old.finding (record (state_of old) { scope = scope })) (now ∙ ap (λ slots. dump_scope p slots old.scope) is)
-    ∙ map_by (with_presence p) old.found old.finding (state_of old) (old.found == 0) refl (λ finding. refl)
+scoped old p slots scope none is now =
+    ap (λ scope. standing_of old.found old.finding (record (state_of old) { scope = scope; presence = p }))
+    (now ∙ ap (λ slots. dump_scope p slots old.scope) is)
+    ∙ map_by (with_presence p) old.found old.finding (state_of old) (old.found == 0) refl none
 
 -- a judgement for one finding stays one
 pub once_kept : (old new : Judge) → KeepsTask old new → IsOnce old → IsOnce new

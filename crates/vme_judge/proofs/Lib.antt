@@ -6,6 +6,7 @@ pub mod Logs
 pub mod Runs
 pub mod Pieces
 pub mod Ends
+pub mod Endings
 pub mod Dumps
 pub mod DumpSamples
 pub mod DumpRuns
@@ -15,4 +16,5 @@ pub mod BlankLines
 pub mod Blanks
 pub mod DumpBlanks
 pub mod DumpPieces
+pub mod DumpWholes
 pub mod DumpEnds

@@ -206,8 +206,14 @@ found_status : (limit : ℕ) (log : LogSoFar) (found : Option Found) (rejected :
 found_status limit log found true last status more illegal is = inr (more, ap is_illegal illegal, is)
 found_status limit log found false last status more illegal is = inl (is ∙ sym (ap status_of illegal))
 
+-- a run has judged a whole log
+pub record IsWhole (o : Options) (boards : List Board) (text : List ℕ) (run : Run) : Type 0 where
+  pub kind : is_no_dump run.kind ≡ true
+  pub judged : IsJudgedAs (log_of o boards text) (run_so_far run) (standing run.judge)
+  pub once : o.limit ≡ 1 → IsOnceRun run
+
 -- the status of a run is that of the log that it has judged
-status_is : (o : Options) (boards : List Board) (text : List ℕ) (run : Run) (status : Status)
+pub status_is : (o : Options) (boards : List Board) (text : List ℕ) (run : Run) (status : Status)
     → IsJudgedAs (log_of o boards text) (run_so_far run) (standing run.judge) → (o.limit ≡ 1 → IsOnceRun run)
     → status ≡ status_of (run_so_far run) → IsStatusOf o boards text status
 unfolding run_so_far
@@ -228,35 +234,42 @@ status_is o boards text run status (inr found) once is =
     ]
 
 -- a reader's piece after which the run stops
-pub between_stops : (o : Options) (boards : List Board) (whole left next : Option (List ℕ)) (run new : Run) (piece : List ℕ) (status : Status)
+pub between_stops : (o : Options) (boards : List Board) (whole left next : Option (List ℕ)) (run new : Run) (piece : List ℕ)
     → Between o boards whole left run → Consumes left next piece
-    → (is_no_dump (form_after run.kind piece) ≡ true → TakesLog run new piece false) → status ≡ status_of (run_so_far new)
-    → IfSome whole (λ text. is_log text ≡ true → IsStatusOf o boards text status)
-between_stops o boards None left next run new piece status between is takes says = tt
-between_stops o boards (Some text) None next run new piece status between is takes says = absurd between
-between_stops o boards (Some text) (Some rest) None run new piece status between is takes says = absurd is
-between_stops o boards (Some text) (Some rest) (Some next) run new piece status between is takes says = λ log.
-    let took = takes (piece_log run text rest piece next log (between log).kind is) in
-    status_is o boards text new status
-    (judged_same _ _ _ _ _ (piece_judged o boards run new text rest piece next false (between log) is took)
-    (took.stops refl new.log.number (log_says (new.log.line ++ next))) refl)
-    (λ one. let was = (between log).once one in (took.once was.0 was.1).0) says
+    → (is_no_dump (form_after run.kind piece) ≡ true → TakesLog run new piece false)
+    → IfSome whole (λ text. is_log text ≡ true → IsWhole o boards text new)
+between_stops o boards None left next run new piece between is takes = tt
+between_stops o boards (Some text) None next run new piece between is takes = absurd between
+between_stops o boards (Some text) (Some rest) None run new piece between is takes = absurd is
+between_stops o boards (Some text) (Some rest) (Some next) run new piece between is takes = λ log.
+    let no_dump = piece_log run text rest piece next log (between log).kind is in
+    let took = takes no_dump in
+    record {
+      kind = ap is_no_dump took.kind ∙ no_dump;
+      judged =
+          judged_same _ _ _ _ _ (piece_judged o boards run new text rest piece next false (between log) is took)
+          (took.stops refl new.log.number (log_says (new.log.line ++ next))) refl;
+      once = λ one. let was = (between log).once one in (took.once was.0 was.1).0;
+    }
 
 -- the end of a reader's bytes
-pub between_ends : (o : Options) (boards : List Board) (whole left next : Option (List ℕ)) (run new : Run) (status : Status)
-    → Between o boards whole left run → Consumes left next [] → IsAtEnd next
+pub between_ends : (o : Options) (boards : List Board) (whole left next : Option (List ℕ)) (run new : Run)
+    → Between o boards whole left run → Consumes left next [] → IsAtEnd next → new.kind ≡ run.kind
     → (is_no_dump run.kind ≡ true → IsJudgedAs (log_whole run []) (run_so_far new) (standing new.judge))
     → (is_no_dump run.kind ≡ true → StaysFound run new)
-    → (is_no_dump run.kind ≡ true → IsOnceRun run → IsGoing run → IsOnceRun new) → status ≡ status_of (run_so_far new)
-    → IfSome whole (λ text. is_log text ≡ true → IsStatusOf o boards text status)
-between_ends o boards None left next run new status between is end judges stays once says = tt
-between_ends o boards (Some text) None next run new status between is end judges stays once says = absurd between
-between_ends o boards (Some text) (Some rest) None run new status between is end judges stays once says = absurd is
-between_ends o boards (Some text) (Some rest) (Some next) run new status between is end judges stays once says = λ log.
+    → (is_no_dump run.kind ≡ true → IsOnceRun run → IsGoing run → IsOnceRun new)
+    → IfSome whole (λ text. is_log text ≡ true → IsWhole o boards text new)
+between_ends o boards None left next run new between is end kind judges stays once = tt
+between_ends o boards (Some text) None next run new between is end kind judges stays once = absurd between
+between_ends o boards (Some text) (Some rest) None run new between is end kind judges stays once = absurd is
+between_ends o boards (Some text) (Some rest) (Some next) run new between is end kind judges stays once = λ log.
     let none : rest ≡ [] = is ∙ end in
     let no_dump = no_dump_before run.kind rest (ap is_no_dump (between log).kind ∙ sym (log_form text) ∙ log) in
-    status_is o boards text new status
-    (judged_on _ _ _ _ _
-    (subst (λ rest. IsJudgedAs (log_of o boards text) (log_whole run rest) (standing run.judge)) none (between log).judged)
-    (judges no_dump) (stays no_dump))
-    (λ one. let was = (between log).once one in once no_dump was.0 was.1) says
+    record {
+      kind = ap is_no_dump kind ∙ no_dump;
+      judged =
+          judged_on _ _ _ _ _
+          (subst (λ rest. IsJudgedAs (log_of o boards text) (log_whole run rest) (standing run.judge)) none (between log).judged)
+          (judges no_dump) (stays no_dump);
+      once = λ one. let was = (between log).once one in once no_dump was.0 was.1;
+    }

@@ -48,7 +48,7 @@ dump_scope p slots scope = record scope {
 
 -- what is remembered once it is known which lines a dump has
 abbrev pub with_presence : Presence → Standing → Standing
-with_presence p m = record m { scope = dump_scope p (slots_of m.boards) m.scope }
+with_presence p m = record m { scope = dump_scope p (slots_of m.boards) m.scope; presence = p }
 
 -- whether the slot at a place is among slots: slot 1 is at place 0
 abbrev pub is_among : ℕ → ℕ → Bool
@@ -67,7 +67,7 @@ port_finding spot slot transfer rule = record {
 
 -- a trace that stands, after a rule that the local port of a slot breaks
 unfoldable pub breach_taken : Spot → ℕ → Rule → Standing → Course
-breach_taken spot slot rule m = found_at m.once (port_finding spot slot m.transfer rule) m.counts m.transfer
+breach_taken spot slot rule m = found_at m (port_finding spot slot m.transfer rule) m.counts m.transfer
 
 -- a trace that stands, after what the local port of a slot has done: nothing, an access, or what breaks a rule
 abbrev pub done_taken : Spot → ℕ → Result (Option Local) Rule → Standing → Course

@@ -17,3 +17,4 @@ pub mod JsonTexts
 pub mod RejectionTexts
 pub mod AssumedTexts
 pub mod VerdictTexts
+pub mod Endings

@@ -118,7 +118,7 @@ accessed m = record m { counts = record m.counts { accesses = one_more m.counts.
 abbrev pub access_known : Spot → ℕ → Local → ℕ → Judged → Standing → Result Judged Rule → Course
 access_known spot slot a board k m (Ok next) = Stands (record m { answers = Some next })
 access_known spot slot a board k m (Err rule) =
-    found_at m.once (access_finding spot slot a m.transfer (local_wrong_of k board a rule)) m.counts m.transfer
+    found_at m (access_finding spot slot a m.transfer (local_wrong_of k board a rule)) m.counts m.transfer
 
 -- a trace after an access to the board with an index; with no such board, or if no answers are judged, each is legal
 abbrev pub access_judged : Spot → ℕ → Local → Standing → Option ℕ → Option Judged → Course

@@ -7,6 +7,7 @@ use Rattle.vme_answers.specs.declared.board.BoardRule.{BoardRule}
 use Rattle.vme_answers.specs.declared.board.Open.{Open}
 use Rattle.vme_answers.specs.Starting.{started}
 use Rattle.vme_answers.specs.Taking.{Judged}
+use Rattle.vme_vcd_reader.specs.Presences.{no_lines}
 use Rattle.vme_judge.specs.declared.boards.Board.{Board}
 use Rattle.vme_judge.specs.declared.options.OpenBytes.{OpenBytes}
 use Rattle.vme_judge.specs.declared.options.Options.{Options}
@@ -60,6 +61,7 @@ unfoldable pub opening : Options → List Board → Standing
 opening o boards = record {
   once = o.limit == 1;
   scope = opening_scope o;
+  presence = no_lines;
   boards = boards;
   watch = None;
   answers = opening_answers o boards;

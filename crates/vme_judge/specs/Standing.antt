@@ -8,6 +8,7 @@ use Rattle.vme_protocol.specs.declared.scope.Scope.{Scope}
 use Rattle.vme_protocol.specs.declared.watch.Watch.{Watch}
 use Rattle.vme_protocol.specs.Samples.{is_at_rest}
 use Rattle.vme_protocol.specs.Watching.{answer_of, started, next_watch}
+use Rattle.vme_vcd_reader.specs.declared.presence.Presence.{Presence}
 use Rattle.vme_answers.specs.declared.wrong.Wrong.{Wrong}
 use Rattle.vme_answers.specs.Taking.{Judged, taken}
 use Rattle.vme_answers.specs.Wrongs.{wrong_of}
@@ -22,21 +23,23 @@ use Rattle.vme_judge.specs.declared.judge.Spot.{Spot}
 use Rattle.vme_judge.specs.declared.transfer.OpenTransfer.{OpenTransfer}
 use Rattle.vme_judge.specs.Seen.{counts_opened, counts_waiting, closed_at, one_more, opened_at, with_data, with_datum}
 
--- what is remembered of a legal trace: whether one finding is asked for, which rules are judged, the boards, the samples
--- (none before the first at rest), what is known of the boards' bytes, if answers are judged, what was seen, and the transfer
--- that is open
+-- what is remembered of a legal trace: whether one finding is asked for, which rules are judged, the lines that a dump has,
+-- once its header is read, the boards, the samples (none before the first at rest), what is known of the boards' bytes, if
+-- answers are judged, what was seen, and the transfer that is open
 pub record Standing : Type 0 where
   pub once : Bool
   pub scope : Scope
+  pub presence : Presence
   pub boards : List Board
   pub watch : Option Watch
   pub answers : Option Judged
   pub counts : Counts
   pub transfer : Option OpenTransfer
 
--- what is found, what was seen up to it, and the transfer that is open after it
+-- what is found, the lines that a dump has, what was seen up to it, and the transfer that is open after it
 pub record Found : Type 0 where
   pub finding : Finding
+  pub presence : Presence
   pub counts : Counts
   pub transfer : Option OpenTransfer
 
@@ -68,10 +71,14 @@ IsStanding c = stands c ≡ true
 abbrev pub HasFallen : Course → Type 0
 HasFallen c = stands c ≡ false
 
--- a trace falls with a finding
-abbrev pub found_at : Bool → Finding → Counts → Option OpenTransfer → Course
-found_at once finding counts transfer =
-    Falls (if once then Some (record { finding = finding; counts = counts; transfer = transfer }) else None)
+-- what is found, if one finding is asked for
+abbrev pub found_if : Bool → Finding → Presence → Counts → Option OpenTransfer → Option Found
+found_if once finding presence counts transfer =
+    if once then Some (record { finding = finding; presence = presence; counts = counts; transfer = transfer }) else None
+
+-- a trace of which this was remembered falls with a finding
+abbrev pub found_at : Standing → Finding → Counts → Option OpenTransfer → Course
+found_at m finding counts transfer = Falls (found_if m.once finding m.presence counts transfer)
 
 -- the watch begins at the first sample at rest
 abbrev pub begun : Scope → Sample → Option Watch
@@ -134,7 +141,7 @@ noted d m = record m { counts = with_data m.counts; transfer = with_datum d m.tr
 abbrev pub datum_known : Spot → Sample → Sample → Datum → Judged → Standing → Result Judged Rule → Course
 datum_known spot before s d k m (Ok next) = Stands (record m { answers = Some next })
 datum_known spot before s d k m (Err rule) =
-    found_at m.once (answer_finding spot m.boards before s m.transfer d (wrong_of k d rule)) m.counts None
+    found_at m (answer_finding spot m.boards before s m.transfer d (wrong_of k d rule)) m.counts None
 
 -- a trace after a datum, by what is known of the boards' bytes: if answers are not judged, each is legal
 abbrev pub datum_judged : Spot → Sample → Sample → Datum → Standing → Option Judged → Course
@@ -149,7 +156,7 @@ shown_judged spot before s m (Some d) = datum_judged spot before s d (noted d (o
 -- a trace after a sample, by the rule of the order that it breaks or the datum that it shows
 abbrev pub order_judged : Spot → Option ControlLine → Watch → Sample → Standing → Result (Option Datum) Rule → Course
 order_judged spot undefined w s m (Err rule) =
-    found_at m.once (order_finding spot undefined w.last s m.transfer rule) (counted w s m).counts None
+    found_at m (order_finding spot undefined w.last s m.transfer rule) (counted w s m).counts None
 order_judged spot undefined w s m (Ok datum) =
     course_map (closed w.last s) (shown_judged spot w.last s (counted w s m) datum)
 
@@ -172,6 +179,7 @@ abbrev pub state_of : Judge → Standing
 state_of j = record {
   once = j.options.now.limit == 1;
   scope = j.scope;
+  presence = j.presence;
   boards = j.boards.now;
   watch = j.watch;
   answers = j.answers;
@@ -182,7 +190,7 @@ state_of j = record {
 -- a trace by what is found and what is remembered
 abbrev pub found_by : Option Finding → Standing → Course
 found_by None m = Stands m
-found_by (Some finding) m = found_at m.once finding m.counts m.transfer
+found_by (Some finding) m = found_at m finding m.counts m.transfer
 
 -- the same, if nothing was found before: if something was, more findings than one are asked for
 abbrev pub standing_of : ℕ → Option Finding → Standing → Course
@@ -196,6 +204,7 @@ standing j = standing_of j.found j.finding (state_of j)
 abbrev pub KeepsTask : Judge → Judge → Type 0
 KeepsTask old new =
     (new.options ≡ old.options) × (new.boards ≡ old.boards) × (new.scope ≡ old.scope) × (new.found ≡ old.found)
+    × (new.presence ≡ old.presence)
 
 -- the finding, the samples and what is known of bytes stay too
 abbrev pub KeepsCourse : Judge → Judge → Type 0

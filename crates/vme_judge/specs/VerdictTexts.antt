@@ -90,7 +90,7 @@ pub record Ending : Type 0 where
 unfoldable pub ending_of : Run → Ending
 ending_of r = record {
   kind = r.kind;
-  presence = r.vcd.presence;
+  presence = r.judge.presence;
   rejection = r.rejection;
   finding = r.judge.finding;
   found = r.judge.found;

@@ -32,14 +32,18 @@ pub(crate) fn slots_of(boards: &[Board]) -> u32
     slots
 }
 
-/// Sets which rules are judged by what a dump has.
+/// Sets which rules are judged by what a dump has. After a finding nothing is set.
 pub(crate) fn set_scope(judge: &mut Judge<'_>, presence: &Presence)
     ensures standing { standing judge.new ≡ course_map (with_presence presence.now) (standing judge.old) }
     ensures options { judge.new.options ≡ judge.old.options }
     ensures found { judge.new.found ≡ judge.old.found }
 {
+    if judge.finding.is_some() {
+        return;
+    }
     let slots = slots_of(judge.boards);
     judge.scope = dump_scope(presence, slots, judge.scope);
+    judge.presence = *presence;
 }
 
 /// Which rules are judged of a dump by what it has.

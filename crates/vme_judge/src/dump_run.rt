@@ -125,6 +125,7 @@ impl Run<'_> {
         ensures header { (map : Map) (h : Heading) (ds : List Declaration) → IsHeader map h ds self.old.vcd →
             IfOk result (λ _. EndsHeader self.old self.new) }
         ensures body { (r : Reading) → IsReading r self.old.vcd → IfOk result (λ _. EndsDump self.old self.new r) }
+        ensures kind { IfOk result (λ _. self.new.kind ≡ self.old.kind) }
     {
         match self.vcd.end() {
             Ok(step) => self.take_last(step),
@@ -137,7 +138,8 @@ impl Run<'_> {
 
     /// Takes the last samples of a dump.
     fn take_last(&mut self, step: Step) -> Result<(), AllocError>
-        ensures { (samples : Samples) → ReportsLast samples step self.old.vcd → IfOk result (λ _. TakesLast self.old self.new samples) }
+        ensures samples { (samples : Samples) → ReportsLast samples step self.old.vcd → IfOk result (λ _. TakesLast self.old self.new samples) }
+        ensures kind { IfOk result (λ _. self.new.kind ≡ self.old.kind) }
     {
         let Step::Sample = step else {
             return Ok(());

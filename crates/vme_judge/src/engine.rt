@@ -1,12 +1,15 @@
 //! The engine of `bendrika judge`.
-ghost use Rattle.std.specs.Prelude.{◌≡◌, true, false, IfOk, IfSome};
+ghost use Rattle.std.specs.Prelude.{◌≡◌, true, false, IfOk, IfSome, OnOk};
+ghost use Rattle.std.specs.Io.KnownBytes.{Appends};
 ghost use Rattle.vme_judge.specs.DumpRuns.{dump_so_far};
 ghost use Rattle.vme_judge.specs.Dumps.{dump_status};
 ghost use Rattle.vme_judge.specs.DumpTexts.{IsDumpStatusOf};
+ghost use Rattle.vme_judge.specs.Endings.{unless, verdict_printed, writes_ahead, PrintsDump, PrintsLog};
 ghost use Rattle.vme_judge.specs.Faults.{is_read_end, is_write_end};
 ghost use Rattle.vme_judge.specs.Logs.{status_of};
 ghost use Rattle.vme_judge.specs.Runs.{run_so_far};
 ghost use Rattle.vme_judge.specs.Verdicts.{is_log, IsStatusOf};
+ghost use Rattle.vme_judge.specs.VerdictTexts.{ending_of};
 
 use crate::boards::Board;
 use crate::fault::{JudgeFault, Status};
@@ -23,8 +26,9 @@ const PIECE: usize = 16_384;
 /// Judges a trace, a dump or a bus log, by the boards of a configuration, and writes the verdict.
 ///
 /// The trace is judged while it is read: after a sample that is not legal nothing more is read. The
-/// status is that of the text, a log or a dump, if the reader has a byte model. No clause states what
-/// is written.
+/// status is that of the text, a log or a dump, if the reader has a byte model. If the writer has one
+/// too, one finding is asked for and no bus log is printed, what is written is the verdict on the
+/// text, and nothing else.
 ///
 /// # Errors
 ///
@@ -46,6 +50,12 @@ pub fn judge_engine<'a, S: Source, W: Sink>(
         IfOk result (IsStatusOf options.now boards.now text)) }
     ensures dump { IfSome (S.remaining trace.old) (λ text. is_log text ≡ false →
         IfOk result (IsDumpStatusOf options.now map.now boards.now text)) }
+
+    // What is written, if one finding is asked for and no bus log.
+    ensures log_text { IfSome (S.remaining trace.old) (λ text. is_log text ≡ true → writes_ahead options.now ≡ false →
+        OnOk result (PrintsLog options.now map.now boards.now text (W.contents writer.old) (W.contents writer.new))) }
+    ensures dump_text { IfSome (S.remaining trace.old) (λ text. is_log text ≡ false → writes_ahead options.now ≡ false →
+        OnOk result (PrintsDump options.now map.now boards.now text (W.contents writer.old) (W.contents writer.new))) }
 {
     let mut run = Run::new(alloc, options, map, boards)?;
     let mut buffer = [0u8; PIECE];
@@ -55,23 +65,28 @@ pub fn judge_engine<'a, S: Source, W: Sink>(
         };
         if count == 0 {
             run.end()?;
-            return written(alloc, &run, options, map, writer);
+            return written(alloc, &run, options, map, boards, writer);
         }
         if !run.push_all(&buffer[..count])? {
-            return written(alloc, &run, options, map, writer);
+            return written(alloc, &run, options, map, boards, writer);
         }
-        write_pending(&mut run.judge.pending, writer)?;
+        write_pending(options, &mut run.judge.pending, writer)?;
     }
     Err(JudgeFault::TooLong)
 }
 
-/// Writes what is not written yet.
-fn write_pending<W: Sink>(pending: &mut String, writer: &mut W) -> Result<(), JudgeFault>
+/// Writes what is not written yet, if something may be written before the verdict.
+fn write_pending<W: Sink>(
+    options: &Options<'_>,
+    pending: &mut String,
+    writer: &mut W,
+) -> Result<(), JudgeFault>
     requires { W.is_marked writer.old ≡ false }
     ensures read { is_read_end result ≡ false }
     ensures write { W.is_marked writer.new ≡ is_write_end result }
+    ensures alone { writes_ahead options.now ≡ false → writer.new ≡ writer.old }
 {
-    if pending.is_empty() {
+    if !options.writes_ahead() || pending.is_empty() {
         return Ok(());
     }
     write_all(writer, pending.as_bytes())?;
@@ -85,6 +100,7 @@ fn written<W: Sink>(
     run: &Run<'_>,
     options: &Options<'_>,
     map: &LineMap,
+    boards: &[Board],
     writer: &mut W,
 ) -> Result<Status, JudgeFault>
     requires { W.is_marked writer.old ≡ false }
@@ -92,14 +108,28 @@ fn written<W: Sink>(
     ensures write { W.is_marked writer.new ≡ is_write_end result }
     ensures status { IfOk result (λ status. status ≡ status_of (run_so_far run.now)) }
     ensures dump { IfOk result (λ status. status ≡ dump_status (dump_so_far run.now)) }
+    ensures text { writes_ahead options.now ≡ false → OnOk result (Appends (W.contents writer.old) (W.contents writer.new)
+        (verdict_printed options.now map.now boards.now (ending_of run.now))) }
 {
-    if !run.judge.pending.is_empty() {
+    if options.writes_ahead() {
         write_all(writer, run.judge.pending.as_bytes())?;
     }
     let mut text = String::new(alloc);
-    let status = write_end(alloc, run, options, map, &mut text)?;
-    if !options.quiet {
-        write_all(writer, text.as_bytes())?;
-    }
+    let status = write_end(alloc, run, options, map, boards, &mut text)?;
+    write_printed(options.quiet, &text, writer)?;
     Ok(status)
+}
+
+/// Writes a text, unless nothing is to be printed.
+fn write_printed<W: Sink>(quiet: bool, text: &str, writer: &mut W) -> Result<(), JudgeFault>
+    requires { W.is_marked writer.old ≡ false }
+    ensures read { is_read_end result ≡ false }
+    ensures write { W.is_marked writer.new ≡ is_write_end result }
+    ensures text { OnOk result (Appends (W.contents writer.old) (W.contents writer.new) (unless quiet text.now)) }
+{
+    if quiet {
+        return Ok(());
+    }
+    write_all(writer, text.as_bytes())?;
+    Ok(())
 }

@@ -15,7 +15,7 @@ use std::alloc::{AllocError, Global};
 use vme_answers::{Answers, Wrong};
 use vme_bus_log::print_datum;
 use vme_protocol::{Datum, Rule, Sample, Scope, Transfer, Watch};
-use vme_vcd_reader::ControlLine;
+use vme_vcd_reader::{ControlLine, Presence};
 
 /// The place of a sample in the trace.
 #[derive(Clone, Copy, Debug)]
@@ -33,6 +33,8 @@ pub(crate) struct Judge<'a> {
     pub(crate) answers: Option<Answers>,
     pub(crate) watch: Option<Watch>,
     pub(crate) scope: Scope,
+    /// The lines that a dump has, once its header was read.
+    pub(crate) presence: Presence,
     pub(crate) counts: Counts,
     pub(crate) transfer: Option<OpenTransfer>,
     pub(crate) finding: Option<Finding>,

@@ -258,6 +258,7 @@ impl<'a> Run<'a> {
             IfOk result (λ _. EndsHeader self.old self.new) }
         ensures body { (r : Reading) → self.old.kind ≡ Dump → IsReading r self.old.vcd →
             IfOk result (λ _. EndsDump self.old self.new r) }
+        ensures kind { IfOk result (λ _. self.new.kind ≡ self.old.kind) }
     {
         match self.kind {
             Kind::Dump => self.end_dump(),
@@ -271,6 +272,7 @@ impl<'a> Run<'a> {
             IsJudgedAs (log_whole self.old []) (run_so_far self.new) (standing self.new.judge)) }
         ensures stays { IfOk result (λ _. StaysFound self.old self.new) }
         ensures once { IfOk result (λ _. IsOnceRun self.old → IsGoing self.old → IsOnceRun self.new) }
+        ensures kind { IfOk result (λ _. self.new.kind ≡ self.old.kind) }
     {
         let line = self.log.number();
         match self.log.end() {

@@ -9,6 +9,7 @@ ghost use Rattle.vme_judge.specs.Runs.{run_so_far};
 ghost use Rattle.vme_judge.specs.VerdictTexts.{beside, comment, commented, ending_of, ending_status, finding_text, found_text, is_dump, last_finding, lists_text, rejection_of, rest_lines, rest_text, seen_text, text_by, verdict_name, verdict_text};
 
 use crate::assumed::assumed;
+use crate::boards::Board;
 use crate::counts::Counts;
 use crate::fault::Status;
 use crate::finding::Finding;
@@ -35,16 +36,17 @@ pub(crate) fn write_end(
     run: &Run<'_>,
     options: &Options<'_>,
     map: &LineMap,
+    boards: &[Board],
     to: &mut String,
 ) -> Result<Status, AllocError>
     ensures log { IfOk result (λ status. status ≡ status_of (run_so_far run.now)) }
     ensures dump { IfOk result (λ status. status ≡ dump_status (dump_so_far run.now)) }
     ensures text { OnOk result (string_bytes to.new
-        ≡ string_bytes to.old ++ verdict_text options.now map.now run.now.judge.boards.now (ending_of run.now)) }
+        ≡ string_bytes to.old ++ verdict_text options.now map.now boards.now (ending_of run.now)) }
 {
     let status = status_of(run);
     let mut text = String::new(alloc);
-    write_text(alloc, run, status, options, map, &mut text)?;
+    write_text(alloc, run, status, options, map, boards, &mut text)?;
     write_beside(options.log, &text, to)?;
     Ok(status)
 }
@@ -127,14 +129,15 @@ fn write_text(
     status: Status,
     options: &Options<'_>,
     map: &LineMap,
+    boards: &[Board],
     to: &mut String,
 ) -> Result<(), AllocError>
     ensures { OnOk result (string_bytes to.new
-        ≡ string_bytes to.old ++ text_by options.now map.now run.now.judge.boards.now (ending_of run.now) status) }
+        ≡ string_bytes to.old ++ text_by options.now map.now boards.now (ending_of run.now) status) }
 {
     match status {
         Status::Rejected => write_rejected(alloc, run, options, map, to),
-        Status::Illegal | Status::Legal => write_judged(alloc, run, status, options, to),
+        Status::Illegal | Status::Legal => write_judged(alloc, run, status, options, boards, to),
     }
 }
 
@@ -164,14 +167,15 @@ fn write_judged(
     run: &Run<'_>,
     status: Status,
     options: &Options<'_>,
+    boards: &[Board],
     to: &mut String,
 ) -> Result<(), AllocError>
     ensures { OnOk result (string_bytes to.new ≡ string_bytes to.old
         ++ (last_finding options.now (ending_of run.now).finding
-        ++ rest_text options.now run.now.judge.boards.now (ending_of run.now) status)) }
+        ++ rest_text options.now boards.now (ending_of run.now) status)) }
 {
     write_last(alloc, options, &run.judge.finding, to)?;
-    write_rest(alloc, options, run, status, to)
+    write_rest(alloc, options, run, status, boards, to)
 }
 
 /// Appends the finding at the end of a trace, if there is one.
@@ -212,17 +216,18 @@ fn write_rest(
     options: &Options<'_>,
     run: &Run<'_>,
     status: Status,
+    boards: &[Board],
     to: &mut String,
 ) -> Result<(), AllocError>
     ensures { OnOk result (string_bytes to.new
-        ≡ string_bytes to.old ++ rest_text options.now run.now.judge.boards.now (ending_of run.now) status) }
+        ≡ string_bytes to.old ++ rest_text options.now boards.now (ending_of run.now) status) }
 {
     let is_dump = is_dump(run.kind);
     let is_within = run.judge.transfer.is_some() && is_dump;
-    let presence = run.vcd.presence();
-    let absent = absent(alloc, is_dump, &presence, run.judge.boards)?;
-    let ports = ports_shown(is_dump, &presence);
-    let assumed = assumed(alloc, options, run.judge.boards, ports)?;
+    let presence = &run.judge.presence;
+    let absent = absent(alloc, is_dump, presence, boards)?;
+    let ports = ports_shown(is_dump, presence);
+    let assumed = assumed(alloc, options, boards, ports)?;
     let counts = &run.judge.counts;
     if options.json {
         let verdict = verdict_name(status);
