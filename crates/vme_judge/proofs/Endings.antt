@@ -13,6 +13,8 @@ use Rattle.vme_judge.specs.declared.fault.Status.{Status}
 use Rattle.vme_judge.specs.declared.finding.Finding.{Finding}
 use Rattle.vme_judge.specs.declared.options.Options.{Options}
 use Rattle.vme_judge.specs.declared.rejection.Rejection.{Rejection}
+use Rattle.vme_judge.specs.declared.rejection.Why.{Why}
+use Rattle.vme_judge.specs.declared.rejection.Why.TheVariants as whys
 use Rattle.vme_judge.specs.declared.run.Kind.{Kind}
 use Rattle.vme_judge.specs.declared.run.Kind.TheVariants as kinds
 use Rattle.vme_judge.specs.declared.run.Run.{Run}
@@ -20,11 +22,11 @@ use Rattle.vme_judge.specs.DumpRuns.{IsDumpJudgedAs, dump_at, dump_so_far}
 use Rattle.vme_judge.specs.Dumps.{DumpSoFar}
 use Rattle.vme_judge.specs.Dumps as dumps
 use Rattle.vme_judge.specs.DumpTexts.{dump_of}
-use Rattle.vme_judge.specs.Endings.{EndsAsDump, EndsAsLog, Prints, PrintsDump, PrintsLog, judged_ending, unless, verdict_printed, writes_ahead}
+use Rattle.vme_judge.specs.Endings.{EndsAsDump, EndsAsLog, IsRejectedFor, Prints, PrintsDump, PrintsLog, judged_ending, unless, verdict_printed, writes_ahead}
 use Rattle.vme_judge.specs.Logs.{LogSoFar, so_far}
 use Rattle.vme_judge.specs.Openings.{opening}
-use Rattle.vme_judge.specs.Runs.{IsJudgedAs, IsOnceRun, is_no_dump, run_so_far}
 use Rattle.vme_judge.specs.Standing.{Falls, Standing, found_by, standing, standing_of, state_of, stands}
+use Rattle.vme_judge.specs.Runs.{cause_by, cause_of, IsJudgedAs, IsOnceRun, is_no_dump, run_so_far}
 use Rattle.vme_judge.specs.Verdicts.{is_log, log_of}
 use Rattle.vme_judge.specs.VerdictTexts.{Ending, ending_of, rejection_of, rest_text, verdict_text}
 use Rattle.vme_judge.proofs.DumpPieces.{unjudged}
@@ -50,6 +52,16 @@ pub record EndsLike (Ends : Ending → Type 0) (o : Options) (map : Map) (boards
   pub ends : Ends stated
   pub text : verdict_text o map boards e ≡ verdict_text o map boards stated
 
+-- what is rejected is rejected for its cause
+rejected_for : (why : Why) (line : Option ℕ) (e : Ending) → e.rejection ≡ Some (record { why = why; line = line })
+    → IsRejectedFor (cause_by why line) e
+rejected_for (whys.Dump fault) line e is = ap is_some is
+rejected_for (whys.Log fault) None e is = ap is_some is
+rejected_for (whys.Log fault) (Some line) e is = (fault, is)
+rejected_for (whys.Break why) None e is = ap is_some is
+rejected_for (whys.Break why) (Some line) e is = is
+rejected_for whys.Nothing line e is = ap is_some is
+
 -- the text of a verdict on a log does not depend on the lines of a dump
 as_log : (o : Options) (map : Map) (boards : List Board) (kind : Kind) (presence : Presence) (e : Ending) → is_no_dump kind ≡ true
     → verdict_text o map boards (record e { kind = kind; presence = presence })
@@ -62,10 +74,10 @@ as_log o map boards kinds.Unknown presence e is = refl
 module _ (o : Options) (map : Map) (boards : List Board) (kind : Kind) (m : Standing) (last : Option LogDatum) (no_dump : is_no_dump kind ≡ true) where
   -- the end of a run that was judged for one finding, by whether it rejects the log and what it has found
   log_like : (rejection : Option Rejection) (finding : Option Finding) → m.once ≡ true
-      → EndsLike (EndsAsLog (so_far (is_some rejection) (found_by finding m) last)) o map boards (ending_by kind rejection finding m)
+      → EndsLike (EndsAsLog (so_far (is_some rejection) (cause_of rejection) (found_by finding m) last)) o map boards (ending_by kind rejection finding m)
   log_like (Some r) finding once = record {
     stated = ending_by kind (Some r) finding m;
-    ends = refl;
+    ends = rejected_for r.why r.line (ending_by kind (Some r) finding m) refl;
     text = refl;
   }
   log_like None None once = record {
@@ -133,8 +145,8 @@ log_once : (log : LogSoFar) (run : Run) → IsJudgedAs log (run_so_far run) (sta
 unfolding run_so_far
 log_once log run (inl same) once = same
 log_once log run (inr found) once =
-    ap (λ c. so_far (is_some run.rejection) c run.state.last) found.2
-    ∙ ap (λ (r : Option Rejection). so_far (is_some r) (Falls found.0) run.state.last) (once.1 (ap stands found.2))
+    ap (λ c. so_far (is_some run.rejection) (cause_of run.rejection) c run.state.last) found.2
+    ∙ ap (λ (r : Option Rejection). so_far (is_some r) (cause_of r) (Falls found.0) run.state.last) (once.1 (ap stands found.2))
     ∙ sym found.1
 
 -- a dump is judged as the run has it, if one finding is asked for
@@ -158,9 +170,10 @@ module _ (run : Run) (once : IsOnceRun run) where
   course_once = standing_by run.judge.found run.judge.finding (state_of run.judge) once.0.1
 
   -- a log as far as it is judged
-  so_far_once : run_so_far run ≡ so_far (is_some run.rejection) (found_by run.judge.finding (state_of run.judge)) run.state.last
+  so_far_once : run_so_far run
+      ≡ so_far (is_some run.rejection) (cause_of run.rejection) (found_by run.judge.finding (state_of run.judge)) run.state.last
   unfolding run_so_far
-  so_far_once = ap (λ c. so_far (is_some run.rejection) c run.state.last) course_once
+  so_far_once = ap (λ c. so_far (is_some run.rejection) (cause_of run.rejection) c run.state.last) course_once
 
   -- a dump as far as it is judged
   dump_far_once : dump_so_far run

@@ -4,7 +4,7 @@ use Rattle.vme_protocol.specs.declared.sample.Sample.{Sample}
 use Rattle.vme_bus_log.specs.declared.entry.LogDatum.{LogDatum}
 use Rattle.vme_judge.specs.declared.judge.Spot.{Spot}
 use Rattle.std.specs.Prelude.{if◌then◌else◌}
-use Rattle.vme_judge.specs.Logs.{addressed_by, begun_by, shown_by, so_far}
+use Rattle.vme_judge.specs.Logs.{Cause, addressed_by, begun_by, shown_by, so_far}
 use Rattle.vme_judge.specs.Samples.{handshake_samples, quiet}
 use Rattle.vme_judge.specs.Standing.{Course, Falls, HasFallen, IsStanding, Standing, Stands, course_map, course_then, sample_taken, samples_taken, stands}
 
@@ -55,15 +55,15 @@ pub all_fallen : (spot : Spot) (samples : List Sample) (c all : Course) → HasF
 all_fallen spot samples c all fell is = sym (then_fallen (samples_taken spot samples) c fell) ∙ is
 
 -- a log after legal samples
-pub shown_legal : (c n : Course) (d : Option LogDatum) → c ≡ n → so_far false c d ≡ shown_by d n
-shown_legal (Falls found) n d is = ap (shown_by d) is
-shown_legal (Stands m) n d is = ap (shown_by d) is
+pub shown_legal : (cause : Cause) (c n : Course) (d : Option LogDatum) → c ≡ n → so_far false cause c d ≡ shown_by d n
+shown_legal cause (Falls found) n d is = ap (shown_by d) is
+shown_legal cause (Stands m) n d is = ap (shown_by d) is
 
 -- a log after illegal ones
-pub shown_illegal : (c n : Course) (last d : Option LogDatum) (broken : Bool) → broken ≡ false → HasFallen c → c ≡ n
-    → so_far broken c last ≡ shown_by d n
-shown_illegal (Stands m) n last d broken whole fell is = absurd (cc fell)
-shown_illegal (Falls found) n last d broken whole fell is = ap (λ test. so_far test (Falls found) last) whole ∙ ap (shown_by d) is
+pub shown_illegal : (c n : Course) (last d : Option LogDatum) (broken : Bool) (cause : Cause) → broken ≡ false → HasFallen c → c ≡ n
+    → so_far broken cause c last ≡ shown_by d n
+shown_illegal (Stands m) n last d broken cause whole fell is = absurd (cc fell)
+shown_illegal (Falls found) n last d broken cause whole fell is = ap (λ test. so_far test cause (Falls found) last) whole ∙ ap (shown_by d) is
 
 -- a course after two parts, of which the second is taken after the first
 pub both_taken : (f g : Standing → Course) (old mid new : Course) → mid ≡ course_then f old → new ≡ course_then g mid

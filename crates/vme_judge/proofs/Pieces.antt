@@ -15,9 +15,9 @@ use Rattle.vme_judge.specs.declared.options.Options.{Options}
 use Rattle.vme_judge.specs.declared.run.Kind.{Kind}
 use Rattle.vme_judge.specs.declared.run.Kind.TheVariants as kinds
 use Rattle.vme_judge.specs.declared.run.Run.{Run}
-use Rattle.vme_judge.specs.Logs.{LogSoFar, Legal, Illegal, is_illegal, so_far, log_taken, status_of}
+use Rattle.vme_judge.specs.Logs.{Cause, LogSoFar, Legal, Illegal, is_illegal, so_far, log_taken, status_of}
 use Rattle.vme_judge.specs.Openings.{opening}
-use Rattle.vme_judge.specs.Runs.{run_so_far, log_whole, form_after, is_no_dump, IsGoing, IsJudgedAs, IsOnceRun, IsOver, Judges, RunsOnce, StaysFound, TakesLog}
+use Rattle.vme_judge.specs.Runs.{cause_of, run_so_far, log_whole, form_after, is_no_dump, IsGoing, IsJudgedAs, IsOnceRun, IsOver, Judges, RunsOnce, StaysFound, TakesLog}
 use Rattle.vme_judge.specs.Standing.{Course, Falls, Found, Standing, Stands, standing, stands}
 use Rattle.vme_judge.specs.Verdicts.{is_space, is_log, log_of, IsStatusOf}
 use Rattle.vme_judge.proofs.Runs.{judged_on, judged_same}
@@ -58,9 +58,9 @@ no_dump_before kinds.Log rest is = refl
 no_dump_before kinds.Unknown rest is = refl
 
 -- a log before its first line
-pub opens_as : (c : Course) (opened : Standing) (last : Option LogDatum) → c ≡ Stands opened → last ≡ None
-    → so_far false c last ≡ Legal opened None
-opens_as c opened last is none = ap (λ c. so_far false c last) is ∙ ap (Legal opened) none
+pub opens_as : (cause : Cause) (c : Course) (opened : Standing) (last : Option LogDatum) → c ≡ Stands opened → last ≡ None
+    → so_far false cause c last ≡ Legal opened None
+opens_as cause c opened last is none = ap (λ c. so_far false cause c last) is ∙ ap (Legal opened) none
 
 module _ (old new : Run) (bytes : List ℕ) (result : Result Bool AllocError) where
   -- what a call states of bytes of a log and its runs
@@ -200,11 +200,11 @@ between_more o boards (Some text) (Some rest) (Some next) run new piece between 
     (takes (piece_log run text rest piece next log (between log).kind is))
 
 -- the status of a log of which something was found, where more may be asked for
-found_status : (limit : ℕ) (log : LogSoFar) (found : Option Found) (rejected : Bool) (last : Option LogDatum) (status : Status) → limit ≢ 1
-    → log ≡ Illegal found → status ≡ status_of (so_far rejected (Falls found) last)
+found_status : (limit : ℕ) (log : LogSoFar) (found : Option Found) (rejected : Bool) (cause : Cause) (last : Option LogDatum)
+    (status : Status) → limit ≢ 1 → log ≡ Illegal found → status ≡ status_of (so_far rejected cause (Falls found) last)
     → (status ≡ status_of log) ⊎ ((limit ≢ 1) × (is_illegal log ≡ true) × (status ≡ statuses.Rejected))
-found_status limit log found true last status more illegal is = inr (more, ap is_illegal illegal, is)
-found_status limit log found false last status more illegal is = inl (is ∙ sym (ap status_of illegal))
+found_status limit log found true cause last status more illegal is = inr (more, ap is_illegal illegal, is)
+found_status limit log found false cause last status more illegal is = inl (is ∙ sym (ap status_of illegal))
 
 -- a run has judged a whole log
 pub record IsWhole (o : Options) (boards : List Board) (text : List ℕ) (run : Run) : Type 0 where
@@ -223,14 +223,14 @@ status_is o boards text run status (inr found) once is =
       | inl one ↦
           inl (
           is
-          ∙ ap (λ c. status_of (so_far (is_some run.rejection) c run.state.last)) found.2
-          ∙ ap (λ rejection. status_of (so_far (is_some rejection) (Falls found.0) run.state.last))
+          ∙ ap (λ c. status_of (so_far (is_some run.rejection) (cause_of run.rejection) c run.state.last)) found.2
+          ∙ ap (λ rejection. status_of (so_far (is_some rejection) (cause_of rejection) (Falls found.0) run.state.last))
           ((once (eqb-true o.limit 1 one)).1 (ap stands found.2))
           ∙ sym (ap status_of found.1)
           )
       | inr more ↦
-          found_status o.limit (log_of o boards text) found.0 (is_some run.rejection) run.state.last status (eqb-false o.limit 1 more) found.1
-          (is ∙ ap (λ c. status_of (so_far (is_some run.rejection) c run.state.last)) found.2)
+          found_status o.limit (log_of o boards text) found.0 (is_some run.rejection) (cause_of run.rejection) run.state.last status (eqb-false o.limit 1 more) found.1
+          (is ∙ ap (λ c. status_of (so_far (is_some run.rejection) (cause_of run.rejection) c run.state.last)) found.2)
     ]
 
 -- a reader's piece after which the run stops

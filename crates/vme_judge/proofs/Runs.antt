@@ -1,5 +1,6 @@
 -- A log that is judged while it is read.
 use Rattle.std.proofs.Common.{◌≡◌, ℕ, Bool, true, false, ◌||◌, inl, inr, List, [], ◌∷◌, ◌++◌, append_assoc, append-nil, ◌≢◌, subst, Option, Some, None, is_some, refl, ap, sym, ◌∙◌}
+use Rattle.std.specs.Prelude.{if◌then◌else◌}
 use Rattle.vme_bus_log.specs.declared.entry.LogAccess.{LogAccess}
 use Rattle.vme_bus_log.specs.Texts.{log_says, Reading, SaysAs}
 use Rattle.vme_bus_log.specs.declared.entry.LogDatum.{LogDatum}
@@ -12,8 +13,8 @@ use Rattle.vme_judge.specs.declared.log.Taken.TheVariants as takens
 use Rattle.vme_judge.specs.declared.run.Run.{Run}
 use Rattle.vme_judge.specs.Seen.{one_more}
 use Rattle.vme_judge.specs.Standing.{Course, Falls, Found, HasFallen, Standing, Stands, course_then, standing, stands}
-use Rattle.vme_judge.specs.Logs.{LogSoFar, Illegal, Broken, is_broken, so_far, shown_by, access_spot, access_taken, local_of, line_taken, next_taken, log_taken}
-use Rattle.vme_judge.specs.Runs.{run_so_far, log_whole, IsJudgedAs, IsOver, Judges, StaysFound, TakesLine, JudgesLine}
+use Rattle.vme_judge.specs.Logs.{Cause, NoLine, LogSoFar, Illegal, Broken, is_broken, so_far, shown_by, access_spot, access_taken, local_of, line_taken, next_taken, log_taken}
+use Rattle.vme_judge.specs.Runs.{cause_of, run_so_far, log_whole, IsJudgedAs, IsOver, Judges, StaysFound, TakesLine, JudgesLine}
 
 -- an illegal log stays illegal
 pub stays_illegal : (found : Option Found) (line : ℕ) (lines : List (Option LogEntry)) → log_taken (Illegal found) line lines ≡ Illegal found
@@ -21,34 +22,28 @@ stays_illegal found line [] = refl
 stays_illegal found line (said ∷ lines) = stays_illegal found (one_more line) lines
 
 -- a broken log stays broken
-pub stays_broken : (line : ℕ) (lines : List (Option LogEntry)) → log_taken Broken line lines ≡ Broken
-stays_broken line [] = refl
-stays_broken line (said ∷ lines) = stays_broken (one_more line) lines
-
--- a line that is none of a log breaks it, unless it is illegal already
-pub rejects : (rejected : Bool) (old new : Course) (last : Option LogDatum) (line : ℕ) → new ≡ old
-    → IsJudgedAs (next_taken (so_far rejected old last) line None) Broken new
-rejects true old new last line same = inl refl
-rejects false (Falls found) new last line same = inr (found, refl, same)
-rejects false (Stands m) new last line same = inl refl
+pub stays_broken : (cause : Cause) (line : ℕ) (lines : List (Option LogEntry)) → log_taken (Broken cause) line lines ≡ Broken cause
+stays_broken cause line [] = refl
+stays_broken cause line (said ∷ lines) = stays_broken cause (one_more line) lines
 
 -- a line is taken as the definitions have it, unless the log is not legal before it
-pub takes : (rejected broken : Bool) (old new : Course) (last next : Option LogDatum) (line : ℕ) (said : LogEntry)
-    → ((m : Standing) → old ≡ Stands m → so_far broken new next ≡ line_taken line m last (Some said))
+pub takes : (rejected broken : Bool) (was now : Cause) (old new : Course) (last next : Option LogDatum) (line : ℕ) (said : Option LogEntry)
+    → ((m : Standing) → old ≡ Stands m → so_far broken now new next ≡ line_taken line m last said)
     → ((found : Option Found) → old ≡ Falls found → new ≡ Falls found)
-    → IsJudgedAs (next_taken (so_far rejected old last) line (Some said)) (so_far (broken || rejected) new next) new
-takes true true old new last next line said taken stays = inl refl
-takes true false old new last next line said taken stays = inl refl
-takes false broken (Falls found) new last next line said taken stays = inr (found, refl, stays found refl)
-takes false true (Stands m) new last next line said taken stays = inl (taken m refl)
-takes false false (Stands m) new last next line said taken stays = inl (taken m refl)
+    → IsJudgedAs (next_taken (so_far rejected was old last) line said)
+    (so_far (broken || rejected) (if rejected then was else now) new next) new
+takes true true was now old new last next line said taken stays = inl refl
+takes true false was now old new last next line said taken stays = inl refl
+takes false broken was now (Falls found) new last next line said taken stays = inr (found, refl, stays found refl)
+takes false true was now (Stands m) new last next line said taken stays = inl (taken m refl)
+takes false false was now (Stands m) new last next line said taken stays = inl (taken m refl)
 
 -- a log that is illegal has fallen
-pub illegal_fell : (broken : Bool) (c : Course) (last : Option LogDatum) (found : Option Found) → so_far broken c last ≡ Illegal found
-    → c ≡ Falls found
-illegal_fell true c last found is = absurd (cc is)
-illegal_fell false (Falls other) last found is = ap Falls (let same : other ≡ found = cc is in same)
-illegal_fell false (Stands m) last found is = absurd (cc is)
+pub illegal_fell : (broken : Bool) (cause : Cause) (c : Course) (last : Option LogDatum) (found : Option Found)
+    → so_far broken cause c last ≡ Illegal found → c ≡ Falls found
+illegal_fell true cause c last found is = absurd (cc is)
+illegal_fell false cause (Falls other) last found is = ap Falls (let same : other ≡ found = cc is in same)
+illegal_fell false cause (Stands m) last found is = absurd (cc is)
 
 -- a log after a line that was judged, with the lines that are left
 pub lines_left : (log judged : LogSoFar) (c : Course) (line : ℕ) (lines : List (Option LogEntry)) → IsJudgedAs log judged c
@@ -65,18 +60,18 @@ judged_on log mid new c n (inr one) two stays = inr (one.0, one.1, stays one.0 o
 judged_on log mid new c n (inl one) (inr two) stays = inr (two.0, sym one ∙ two.1, two.2)
 
 -- an access, as a line is taken
-pub as_access : (broken : Bool) (old new : Course) (last next : Option LogDatum) (line : ℕ) (a : LogAccess)
-    → so_far broken new next ≡ shown_by last (course_then (access_taken (access_spot line a) a.slot (local_of a)) old)
-    → (m : Standing) → old ≡ Stands m → so_far broken new next ≡ line_taken line m last (Some (entries.Access a))
-as_access broken old new last next line a taken m is =
+pub as_access : (broken : Bool) (cause : Cause) (old new : Course) (last next : Option LogDatum) (line : ℕ) (a : LogAccess)
+    → so_far broken cause new next ≡ shown_by last (course_then (access_taken (access_spot line a) a.slot (local_of a)) old)
+    → (m : Standing) → old ≡ Stands m → so_far broken cause new next ≡ line_taken line m last (Some (entries.Access a))
+as_access broken cause old new last next line a taken m is =
     taken ∙ ap (λ c. shown_by last (course_then (access_taken (access_spot line a) a.slot (local_of a)) c)) is
 
 -- an access after a finding
-pub access_stays : (broken : Bool) (old new : Course) (last next : Option LogDatum) (line : ℕ) (a : LogAccess)
-    → so_far broken new next ≡ shown_by last (course_then (access_taken (access_spot line a) a.slot (local_of a)) old)
+pub access_stays : (broken : Bool) (cause : Cause) (old new : Course) (last next : Option LogDatum) (line : ℕ) (a : LogAccess)
+    → so_far broken cause new next ≡ shown_by last (course_then (access_taken (access_spot line a) a.slot (local_of a)) old)
     → (found : Option Found) → old ≡ Falls found → new ≡ Falls found
-access_stays broken old new last next line a taken found fell =
-    illegal_fell broken new next found
+access_stays broken cause old new last next line a taken found fell =
+    illegal_fell broken cause new next found
     (taken ∙ ap (λ c. shown_by last (course_then (access_taken (access_spot line a) a.slot (local_of a)) c)) fell)
 
 -- the same judged log
@@ -85,36 +80,49 @@ judged_same log a b c n (inl same) is now = inl (sym is ∙ same)
 judged_same log a b c n (inr fell) is now = inr (fell.0, fell.1, sym now ∙ fell.2)
 
 -- a run that has taken a line
-pub line_is_taken : (old new : Run) (mid : Judge) (state : LogState) (broken : Bool) (line : ℕ) (said : LogEntry) → new.judge ≡ mid
-    → new.state ≡ state → is_some new.rejection ≡ (broken || is_some old.rejection)
-    → ((m : Standing) → standing old.judge ≡ Stands m → so_far broken (standing mid) state.last ≡ line_taken line m old.state.last (Some said))
-    → ((found : Option Found) → standing old.judge ≡ Falls found → standing mid ≡ Falls found) → TakesLine old new line (Some said)
+pub line_is_taken : (old new : Run) (mid : Judge) (state : LogState) (broken : Bool) (cause : Cause) (line : ℕ) (said : Option LogEntry)
+    → new.judge ≡ mid → new.state ≡ state → is_some new.rejection ≡ (broken || is_some old.rejection)
+    → cause_of new.rejection ≡ (if is_some old.rejection then cause_of old.rejection else cause)
+    → ((m : Standing) → standing old.judge ≡ Stands m → so_far broken cause (standing mid) state.last ≡ line_taken line m old.state.last said)
+    → ((found : Option Found) → standing old.judge ≡ Falls found → standing mid ≡ Falls found) → TakesLine old new line said
 unfolding run_so_far
-line_is_taken old new mid state broken line said judge same rejected taken stays =
+line_is_taken old new mid state broken cause line said judge same rejected why taken stays =
+    let now : Cause = if is_some old.rejection then cause_of old.rejection else cause in
     judged_same _ _ _ _ _
-    (takes (is_some old.rejection) broken (standing old.judge) (standing mid) old.state.last state.last line said taken stays)
+    (takes (is_some old.rejection) broken (cause_of old.rejection) cause (standing old.judge) (standing mid) old.state.last state.last line said
+    taken stays)
     (sym (
-    ap (λ r. so_far r (standing new.judge) new.state.last) rejected
-    ∙ ap (λ (j : Judge). so_far (broken || is_some old.rejection) (standing j) new.state.last) judge
-    ∙ ap (λ (s : LogState). so_far (broken || is_some old.rejection) (standing mid) s.last) same
+    ap (λ r. so_far r (cause_of new.rejection) (standing new.judge) new.state.last) rejected
+    ∙ ap (λ c. so_far (broken || is_some old.rejection) c (standing new.judge) new.state.last) why
+    ∙ ap (λ (j : Judge). so_far (broken || is_some old.rejection) now (standing j) new.state.last) judge
+    ∙ ap (λ (s : LogState). so_far (broken || is_some old.rejection) now (standing mid) s.last) same
     ))
     (sym (ap standing judge))
 
 -- no further line is judged once something was found
-over_fallen : (rejected : Bool) (c : Course) (last : Option LogDatum) → HasFallen c → IsOver (so_far rejected c last)
-over_fallen true c last fell = stays_broken
-over_fallen false (Falls found) last fell = stays_illegal found
-over_fallen false (Stands m) last fell = absurd (cc fell)
+over_fallen : (rejected : Bool) (cause : Cause) (c : Course) (last : Option LogDatum) → HasFallen c → IsOver (so_far rejected cause c last)
+over_fallen true cause c last fell = stays_broken cause
+over_fallen false cause (Falls found) last fell = stays_illegal found
+over_fallen false cause (Stands m) last fell = absurd (cc fell)
 
 -- no further line is judged once one was rejected
-over_rejected : (rejected : Bool) (c : Course) (last : Option LogDatum) → rejected ≡ true → IsOver (so_far rejected c last)
-over_rejected true c last is = stays_broken
-over_rejected false c last is = absurd (cc is)
+over_rejected : (rejected : Bool) (cause : Cause) (c : Course) (last : Option LogDatum) → rejected ≡ true
+    → IsOver (so_far rejected cause c last)
+over_rejected true cause c last is = stays_broken cause
+over_rejected false cause c last is = absurd (cc is)
 
 -- a run whose line was rejected is over
 pub is_over_rejected : (new : Run) → is_some new.rejection ≡ true → IsOver (run_so_far new)
 unfolding run_so_far
-is_over_rejected new rejected = over_rejected (is_some new.rejection) (standing new.judge) new.state.last rejected
+is_over_rejected new rejected =
+    over_rejected (is_some new.rejection) (cause_of new.rejection) (standing new.judge) new.state.last rejected
+
+-- a run that has rejected a line that is none of a log
+pub line_is_refused : (old new : Run) (line : ℕ) → is_some new.rejection ≡ true
+    → cause_of new.rejection ≡ (if is_some old.rejection then cause_of old.rejection else NoLine line) → new.judge ≡ old.judge
+    → new.state ≡ old.state → TakesLine old new line None
+line_is_refused old new line rejected why judge state =
+    line_is_taken old new old.judge old.state true (NoLine line) line None judge state rejected why (λ m is. refl) (λ found fell. fell)
 
 -- a run whose line was not taken as legal is over
 pub is_over : (new : Run) (mid : Judge) (taken : Taken) (rejected : Bool) → new.judge ≡ mid
@@ -123,9 +131,10 @@ pub is_over : (new : Run) (mid : Judge) (taken : Taken) (rejected : Bool) → ne
 unfolding run_so_far
 is_over new mid takens.Legal rejected judge is other fell = absurd (other refl)
 is_over new mid takens.Illegal rejected judge is other fell =
-    over_fallen (is_some new.rejection) (standing new.judge) new.state.last (ap (λ j. stands (standing j)) judge ∙ fell refl)
+    over_fallen (is_some new.rejection) (cause_of new.rejection) (standing new.judge) new.state.last
+    (ap (λ j. stands (standing j)) judge ∙ fell refl)
 is_over new mid (takens.Broken why) rejected judge is other fell =
-    over_rejected (is_some new.rejection) (standing new.judge) new.state.last is
+    over_rejected (is_some new.rejection) (cause_of new.rejection) (standing new.judge) new.state.last is
 
 -- a run of which these bytes of a log are left to judge
 abbrev pub Leaves : Run → Run → List ℕ → List ℕ → Type 0
@@ -180,20 +189,15 @@ line_pushed old mid new read line said same taken log ends next = λ rest.
     left refl
 
 -- a run that has rejected the rest of a line
-pub line_refused : (old new : Run) (line : List ℕ) → is_some new.rejection ≡ true → new.judge ≡ old.judge
+pub line_refused : (old new : Run) (line : List ℕ) → TakesLine old new old.log.number None → IsOver (run_so_far new)
     → ((rest : List ℕ) → log_says (old.log.line ++ (line ++ 10 ∷ rest)) ≡ None ∷ log_says rest) → JudgesLine old new line
-unfolding run_so_far
-line_refused old new line rejected judge ends = λ rest.
-    let broken : run_so_far new ≡ Broken = ap (λ r. so_far r (standing new.judge) new.state.last) rejected in
+line_refused old new line taken over ends = λ rest.
     judged_same _ _ _ _ _
-    (subst (λ before. IsJudgedAs before Broken (standing new.judge))
+    (subst (λ before. IsJudgedAs before (log_taken (run_so_far new) (one_more old.log.number) (log_says rest)) (standing new.judge))
     (sym (ap (log_taken (run_so_far old) old.log.number) (ends rest)))
-    (subst (λ after. IsJudgedAs (log_taken (next_taken (run_so_far old) old.log.number None) (one_more old.log.number) (log_says rest)) after
-    (standing new.judge)) (stays_broken (one_more old.log.number) (log_says rest))
-    (lines_left (next_taken (run_so_far old) old.log.number None) Broken (standing new.judge) (one_more old.log.number) (log_says rest)
-    (rejects (is_some old.rejection) (standing old.judge) (standing new.judge) old.state.last old.log.number (ap standing judge)))))
-    (sym (ap (λ log. log_taken log new.log.number (log_says (new.log.line ++ rest))) broken
-    ∙ stays_broken new.log.number (log_says (new.log.line ++ rest)))) refl
+    (lines_left (next_taken (run_so_far old) old.log.number None) (run_so_far new) (standing new.judge) (one_more old.log.number)
+    (log_says rest) taken))
+    (over (one_more old.log.number) (log_says rest) ∙ sym (over new.log.number (log_says (new.log.line ++ rest)))) refl
 
 -- a run that has judged the line with which a log ends
 pub ended_taken : (old mid new : Run) (said : Option LogEntry) → run_so_far mid ≡ run_so_far old → TakesLine mid new old.log.number said
@@ -206,14 +210,3 @@ ended_taken old mid new said same taken says =
     ∙ ap (λ log. next_taken log old.log.number said) (sym same)
     ))
     taken
-
--- a run that has rejected it
-pub ended_refused : (old new : Run) → is_some new.rejection ≡ true → new.judge ≡ old.judge → log_says old.log.line ≡ None ∷ []
-    → IsJudgedAs (log_whole old []) (run_so_far new) (standing new.judge)
-unfolding run_so_far
-ended_refused old new rejected judge says =
-    ended_taken old old new None refl
-    (judged_same _ _ _ _ _
-    (rejects (is_some old.rejection) (standing old.judge) (standing new.judge) old.state.last old.log.number (ap standing judge))
-    (sym (ap (λ r. so_far r (standing new.judge) new.state.last) rejected)) refl)
-    says

@@ -1,6 +1,7 @@
 -- What is written of a trace, by its text.
 use Rattle.std.specs.Prelude.{◌≡◌, ℕ, Bool, not, ◌==◌, ◌||◌, if◌then◌else◌, List, [], Option, Some, None, IsSome, is_some}
 use Rattle.std.specs.Io.KnownBytes.{Appends}
+use Rattle.vme_bus_log.specs.declared.fault.LogFault.{LogFault}
 use Rattle.vme_line_map.specs.Variables.{Map}
 use Rattle.vme_vcd_reader.specs.declared.presence.Presence.{Presence}
 use Rattle.vme_vcd_reader.specs.Presences.{no_lines}
@@ -8,13 +9,14 @@ use Rattle.vme_judge.specs.declared.boards.Board.{Board}
 use Rattle.vme_judge.specs.declared.counts.Counts.{Counts}
 use Rattle.vme_judge.specs.declared.finding.Finding.{Finding}
 use Rattle.vme_judge.specs.declared.options.Options.{Options}
+use Rattle.vme_judge.specs.declared.rejection.Why.TheVariants as whys
 use Rattle.vme_judge.specs.declared.run.Kind.{Kind}
 use Rattle.vme_judge.specs.declared.run.Kind.TheVariants as kinds
 use Rattle.vme_judge.specs.declared.transfer.OpenTransfer.{OpenTransfer}
 use Rattle.vme_judge.specs.Dumps.{DumpSoFar}
 use Rattle.vme_judge.specs.Dumps as dumps
 use Rattle.vme_judge.specs.DumpTexts.{dump_of}
-use Rattle.vme_judge.specs.Logs.{LogSoFar}
+use Rattle.vme_judge.specs.Logs.{Cause, NoLine, Break, Other, LogSoFar}
 use Rattle.vme_judge.specs.Logs as logs
 use Rattle.vme_judge.specs.Verdicts.{log_of}
 use Rattle.vme_judge.specs.VerdictTexts.{Ending, verdict_text}
@@ -44,12 +46,18 @@ judged_ending kind presence finding counts transfer = record {
   is_within = is_some transfer;
 }
 
--- a log, of which one finding is asked for, ends so: with what was seen, with what is found, or rejected for some reason
+-- a text is rejected for a cause; which fault a line has that is none of a log is not stated
+abbrev pub IsRejectedFor : Cause → Ending → Type 0
+IsRejectedFor (NoLine line) e = (fault : LogFault) × (e.rejection ≡ Some (record { why = whys.Log fault; line = Some line }))
+IsRejectedFor (Break line why) e = e.rejection ≡ Some (record { why = whys.Break why; line = Some line })
+IsRejectedFor Other e = IsSome e.rejection
+
+-- a log, of which one finding is asked for, ends so: with what was seen, with what is found, or rejected for a cause
 abbrev pub EndsAsLog : LogSoFar → Ending → Type 0
 EndsAsLog (logs.Legal m last) e = e ≡ judged_ending kinds.Log no_lines None m.counts m.transfer
 EndsAsLog (logs.Illegal None) e = ⊥
 EndsAsLog (logs.Illegal (Some f)) e = e ≡ judged_ending kinds.Log no_lines (Some f.finding) f.counts f.transfer
-EndsAsLog logs.Broken e = IsSome e.rejection
+EndsAsLog (logs.Broken cause) e = IsRejectedFor cause e
 
 -- a dump, of which one finding is asked for, ends so, with the lines that its header has
 abbrev pub EndsAsDump : DumpSoFar → Ending → Type 0

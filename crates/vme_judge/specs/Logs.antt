@@ -1,5 +1,5 @@
 -- Which logs are legal: each line is judged by the samples that it shows.
-use Rattle.std.specs.Prelude.{ℕ, ◌+◌, Bool, true, false, ◌==◌, ◌&&◌, if◌then◌else◌, List, [], ◌∷◌, Option, Some, None, Result, Ok, Err}
+use Rattle.std.specs.Prelude.{ℕ, ◌+◌, Bool, true, false, not, ◌==◌, ◌||◌, if◌then◌else◌, List, [], ◌∷◌, Option, Some, None, Result, Ok, Err}
 use Rattle.std.specs.List.{position}
 use Rattle.std.specs.Option.{option_map}
 use Rattle.vme_protocol.specs.declared.port.Local.{Local}
@@ -17,6 +17,8 @@ use Rattle.vme_judge.specs.declared.finding.Asked.TheVariants as askeds
 use Rattle.vme_judge.specs.declared.finding.Broken.TheVariants as brokens
 use Rattle.vme_judge.specs.declared.finding.Finding.{Finding}
 use Rattle.vme_judge.specs.declared.judge.Spot.{Spot}
+use Rattle.vme_judge.specs.declared.log.LogBreak.{LogBreak}
+use Rattle.vme_judge.specs.declared.log.LogBreak.TheVariants as breaks
 use Rattle.vme_judge.specs.declared.log.Taken.{Taken}
 use Rattle.vme_judge.specs.declared.log.Taken.TheVariants as takes
 use Rattle.vme_judge.specs.declared.transfer.OpenTransfer.{OpenTransfer}
@@ -24,35 +26,50 @@ use Rattle.vme_judge.specs.Samples.{address_samples, datum_samples, fall_samples
 use Rattle.vme_judge.specs.Seen.{has_counted, one_more, without_start}
 use Rattle.vme_judge.specs.Standing.{Course, Falls, Found, Standing, Stands, course_map, course_then, found_at, samples_taken}
 
+-- why a text is rejected: the line with a number is none of a log, or does not go on from the line before; or for no line of a
+-- log
+pub data Cause : Type 0 where
+  NoLine : ℕ → Cause
+  Break : ℕ → LogBreak → Cause
+  Other : Cause
+
 -- a log so far: legal, with what is remembered of it and the datum before, if its transfer may go on; illegal, once a line
 -- shows a sample that is not legal, with what is found, if one finding is asked for; or broken, once a line is none of a log or
 -- does not go on from the line before
 pub data LogSoFar : Type 0 where
   Legal : Standing → Option LogDatum → LogSoFar
   Illegal : Option Found → LogSoFar
-  Broken : LogSoFar
+  Broken : Cause → LogSoFar
 
 -- whether a log is illegal
 abbrev pub is_illegal : LogSoFar → Bool
 is_illegal (Legal m last) = false
 is_illegal (Illegal found) = true
-is_illegal Broken = false
+is_illegal (Broken cause) = false
 
--- whether a datum is the next one of a transfer
-abbrev pub is_next : LogDatum → LogDatum → Bool
-is_next last d = d.index == last.index + 1 && d.am == last.am && d.address == last.address
+-- why a datum is not the next one of a transfer, if it is not
+abbrev pub break_of : LogDatum → LogDatum → Option LogBreak
+break_of last d =
+    if not (d.index == last.index + 1) then Some breaks.Number
+    else (if not (last.am == d.am) || not (last.address == d.address) then Some breaks.Address else None)
 
--- a log by whether it is broken, its course and the datum before
-abbrev pub so_far : Bool → Course → Option LogDatum → LogSoFar
-so_far true c last = Broken
-so_far false (Falls found) last = Illegal found
-so_far false (Stands m) last = Legal m last
+-- a log by whether it is broken, and why, its course and the datum before
+abbrev pub so_far : Bool → Cause → Course → Option LogDatum → LogSoFar
+so_far true cause c last = Broken cause
+so_far false cause (Falls found) last = Illegal found
+so_far false cause (Stands m) last = Legal m last
 
 -- whether a line does not go on from the line before
 abbrev pub is_broken : Taken → Bool
 is_broken (takes.Broken why) = true
 is_broken takes.Legal = false
 is_broken takes.Illegal = false
+
+-- why a line with a number does not go on from the line before
+abbrev pub break_at : ℕ → Taken → Cause
+break_at line (takes.Broken why) = Break line why
+break_at line takes.Legal = Other
+break_at line takes.Illegal = Other
 
 -- a datum after its samples
 abbrev pub shown_by : Option LogDatum → Course → LogSoFar
@@ -83,12 +100,16 @@ first_taken spot d m = course_then (samples_taken spot (datum_samples d)) (addre
 abbrev pub left_out : Standing → Standing
 left_out m = record m { counts = record m.counts { skipped = one_more m.counts.skipped } }
 
+-- a datum after the one before it, by why it is not the next one of its transfer, if it is not
+abbrev pub datum_next : ℕ → Standing → LogDatum → Option LogBreak → LogSoFar
+datum_next line m d None = shown_by (Some d) (samples_taken (datum_spot line d) (datum_samples d) m)
+datum_next line m d (Some why) = Broken (Break line why)
+
 -- a datum that begins no transfer: the next one of the transfer before, if the log has one; else it is left out, since the
 -- log may begin within a transfer
 abbrev pub datum_continued : ℕ → Standing → Option LogDatum → LogDatum → LogSoFar
 datum_continued line m None d = Legal (left_out m) None
-datum_continued line m (Some last) d =
-    if is_next last d then shown_by (Some d) (samples_taken (datum_spot line d) (datum_samples d) m) else Broken
+datum_continued line m (Some last) d = datum_next line m d (break_of last d)
 
 -- a datum of a line after the line before
 abbrev pub datum_taken : ℕ → Standing → Option LogDatum → LogDatum → LogSoFar
@@ -137,7 +158,7 @@ access_spot line a = record { line = line; time = a.time }
 
 -- a line of a log after the lines before; a line that says nothing is none of a log
 abbrev pub line_taken : ℕ → Standing → Option LogDatum → Option LogEntry → LogSoFar
-line_taken line m last None = Broken
+line_taken line m last None = Broken (NoLine line)
 line_taken line m last (Some entries.Nothing) = Legal m last
 line_taken line m last (Some (entries.Datum d)) = datum_taken line m last d
 line_taken line m last (Some (entries.Access a)) = shown_by last (access_taken (access_spot line a) a.slot (local_of a) m)
@@ -146,7 +167,7 @@ line_taken line m last (Some (entries.Access a)) = shown_by last (access_taken (
 abbrev pub next_taken : LogSoFar → ℕ → Option LogEntry → LogSoFar
 next_taken (Legal m last) line said = line_taken line m last said
 next_taken (Illegal found) line said = Illegal found
-next_taken Broken line said = Broken
+next_taken (Broken cause) line said = Broken cause
 
 -- a log after lines of which the first has a number
 abbrev pub log_taken : LogSoFar → ℕ → List (Option LogEntry) → LogSoFar
@@ -157,4 +178,4 @@ log_taken log line (said ∷ lines) = log_taken (next_taken log line said) (one_
 abbrev pub status_of : LogSoFar → Status
 status_of (Legal m last) = if has_counted m.counts then statuses.Legal else statuses.Rejected
 status_of (Illegal found) = statuses.Illegal
-status_of Broken = statuses.Rejected
+status_of (Broken cause) = statuses.Rejected

@@ -1,12 +1,15 @@
 -- A log that is judged while it is read.
-use Rattle.std.specs.Prelude.{◌≡◌, ℕ, Bool, true, false, ◌==◌, if◌then◌else◌, ◌⊎◌, List, [], ◌∷◌, ◌++◌, Option, None, is_some}
+use Rattle.std.specs.Prelude.{◌≡◌, ℕ, Bool, true, false, ◌==◌, if◌then◌else◌, ◌⊎◌, List, [], ◌∷◌, ◌++◌, Option, Some, None, is_some}
 use Rattle.vme_bus_log.specs.declared.entry.LogEntry.{LogEntry}
 use Rattle.vme_bus_log.specs.Texts.{log_says}
 use Rattle.vme_judge.specs.declared.run.Kind.{Kind}
 use Rattle.vme_judge.specs.declared.run.Kind.TheVariants as kinds
 use Rattle.vme_judge.specs.declared.run.Run.{Run}
 use Rattle.vme_judge.specs.Standing.{Course, Falls, Found, HasFallen, IsStanding, standing, IsOnce}
-use Rattle.vme_judge.specs.Logs.{LogSoFar, Illegal, so_far, log_taken, next_taken}
+use Rattle.vme_judge.specs.declared.rejection.Rejection.{Rejection}
+use Rattle.vme_judge.specs.declared.rejection.Why.{Why}
+use Rattle.vme_judge.specs.declared.rejection.Why.TheVariants as whys
+use Rattle.vme_judge.specs.Logs.{Cause, NoLine, Break, Other, LogSoFar, Illegal, so_far, log_taken, next_taken}
 use Rattle.vme_judge.specs.Verdicts.{is_space}
 
 -- the form of a trace after some bytes: by the first one that is no blank
@@ -23,9 +26,20 @@ is_no_dump kinds.Dump = false
 is_no_dump kinds.Log = true
 is_no_dump kinds.Unknown = true
 
+-- why a line of a log is rejected
+abbrev pub cause_by : Why → Option ℕ → Cause
+cause_by (whys.Log fault) (Some line) = NoLine line
+cause_by (whys.Break why) (Some line) = Break line why
+cause_by why line = Other
+
+-- why a text is rejected, if it is
+abbrev pub cause_of : Option Rejection → Cause
+cause_of None = Other
+cause_of (Some r) = cause_by r.why r.line
+
 -- a log as far as a run has judged it
 unfoldable pub run_so_far : Run → LogSoFar
-run_so_far r = so_far (is_some r.rejection) (standing r.judge) r.state.last
+run_so_far r = so_far (is_some r.rejection) (cause_of r.rejection) (standing r.judge) r.state.last
 
 -- the whole log, if this text of it is left to read
 abbrev pub log_whole : Run → List ℕ → LogSoFar

@@ -1,7 +1,7 @@
 //! A bus log, judged: each datum as the samples of a handshake that shows it.
 ghost use Rattle.std.specs.Prelude.{◌≡◌, ◌≢◌, [], ◌∷◌, Option, true, false, Some, None, not, IfOk, is_some};
 ghost use Rattle.vme_judge.specs.declared.log.Taken.TheVariants.{Illegal, Legal};
-ghost use Rattle.vme_judge.specs.Logs.{access_spot, access_taken, addressed_by, begun_by, datum_taken, first_taken, is_broken, is_next, local_of, shown_by, so_far};
+ghost use Rattle.vme_judge.specs.Logs.{access_spot, access_taken, addressed_by, begun_by, break_at, break_of, datum_taken, first_taken, is_broken, local_of, shown_by, so_far};
 ghost use Rattle.vme_judge.specs.Samples.{address_lines, datum_samples, driver_bit, handshake_samples, lines_of, quiet, with_data};
 ghost use Rattle.vme_judge.specs.Standing.{course_then, samples_taken, standing, stands, Falls, Found, HasFallen, IsOnce, IsStanding, KeepsTask, Standing, Stands};
 
@@ -139,7 +139,7 @@ fn with_data(datum: &LogDatum, sample: Sample) -> Sample
 
 /// Why a datum does not go on from the one before it, if it does not.
 fn break_of(last: &LogDatum, datum: &LogDatum) -> Option<LogBreak>
-    ensures { is_some result ≡ not (is_next last.now datum.now) }
+    ensures { result ≡ break_of last.now datum.now }
 {
     if u64::from(datum.index) != u64::from(last.index) + 1 {
         return Some(LogBreak::Number);
@@ -170,7 +170,7 @@ impl LogState {
         line: u64,
     ) -> Result<Taken, AllocError>
         ensures taken { (m : Standing) → standing judge.old ≡ Stands m → IfOk result (λ taken.
-            so_far (is_broken taken) (standing judge.new) self.new.last ≡ datum_taken line m self.old.last datum.now) }
+            so_far (is_broken taken) (break_at line taken) (standing judge.new) self.new.last ≡ datum_taken line m self.old.last datum.now) }
         ensures stays { (found : Option Found) → standing judge.old ≡ Falls found →
             IfOk result (λ _. standing judge.new ≡ Falls found) }
         ensures breaks { IfOk result (λ taken. is_broken taken ≡ true → standing judge.new ≡ standing judge.old) }
@@ -204,7 +204,7 @@ impl LogState {
         datum: &LogDatum,
         spot: Spot,
     ) -> Result<Taken, AllocError>
-        ensures taken { IfOk result (λ taken. so_far (is_broken taken) (standing judge.new) self.new.last ≡
+        ensures taken { IfOk result (λ taken. so_far (is_broken taken) (break_at spot.line taken) (standing judge.new) self.new.last ≡
             shown_by (Some datum.now) (course_then (first_taken spot datum.now) (standing judge.old))) }
         ensures whole { IfOk result (λ taken. is_broken taken ≡ false) }
         ensures stops { IfOk result (λ taken. taken ≡ Illegal → HasFallen (standing judge.new)) }
@@ -226,7 +226,7 @@ impl LogState {
         datum: &LogDatum,
         spot: Spot,
     ) -> Result<Taken, AllocError>
-        ensures taken { IfOk result (λ taken. so_far (is_broken taken) (standing judge.new) self.new.last ≡
+        ensures taken { IfOk result (λ taken. so_far (is_broken taken) (break_at spot.line taken) (standing judge.new) self.new.last ≡
             shown_by (Some datum.now) (course_then (samples_taken spot (datum_samples datum.now)) (standing judge.old))) }
         ensures whole { IfOk result (λ taken. is_broken taken ≡ false) }
         ensures stops { IfOk result (λ taken. taken ≡ Illegal → HasFallen (standing judge.new)) }
@@ -270,7 +270,7 @@ impl LogState {
         access: &LogAccess,
         line: u64,
     ) -> Result<Taken, AllocError>
-        ensures taken { IfOk result (λ taken. so_far (is_broken taken) (standing judge.new) self.new.last ≡
+        ensures taken { IfOk result (λ taken. so_far (is_broken taken) (break_at line taken) (standing judge.new) self.new.last ≡
             shown_by self.old.last (course_then (access_taken (access_spot line access.now) access.now.slot (local_of access.now))
             (standing judge.old))) }
         ensures whole { IfOk result (λ taken. is_broken taken ≡ false) }

@@ -1,5 +1,5 @@
 //! A trace, byte by byte.
-ghost use Rattle.std.specs.Prelude.{◌≡◌, ◌≢◌, ◌||◌, ℕ, List, [], ◌∷◌, ◌++◌, true, false, Some, None, replicate, is_some, IfOk};
+ghost use Rattle.std.specs.Prelude.{◌≡◌, ◌≢◌, ◌||◌, ℕ, List, [], ◌∷◌, ◌++◌, true, false, Some, None, replicate, is_some, IfOk, if◌then◌else◌};
 ghost use Rattle.vme_judge.specs.declared.run.Kind.TheVariants.{Dump, Unknown};
 ghost use Rattle.vme_judge.specs.declared.log.Taken.TheVariants.{Legal};
 ghost use Rattle.vme_bus_log.specs.declared.entry.LogEntry.TheVariants.{Nothing};
@@ -12,11 +12,11 @@ ghost use Rattle.vme_vcd_reader.specs.Readers.{IsHeader, IsReading};
 ghost use Rattle.vme_judge.specs.Blanks.{AreBlanks, IsAtStart, IsBlankLine, IsBlankSoFar, line_past, SkipsBlanks, TakesBlanks, TakesFirst, TakesFurther};
 ghost use Rattle.vme_judge.specs.DumpRuns.{dump_so_far, EndsDump, EndsHeader, HasReached, Reached, TakesPiece};
 ghost use Rattle.vme_judge.specs.Dumps.{Legal as LegalDump};
-ghost use Rattle.vme_judge.specs.Logs.{is_broken};
+ghost use Rattle.vme_judge.specs.Logs.{break_at, is_broken};
 ghost use Rattle.vme_judge.specs.Logs.{Legal as LegalSoFar};
 ghost use Rattle.vme_judge.specs.Openings.{opening};
 ghost use Rattle.vme_judge.specs.Standing.{standing};
-ghost use Rattle.vme_judge.specs.Runs.{form_after, is_no_dump, log_whole, run_so_far, IsGoing, IsJudgedAs, IsOnceRun, IsOver, Judges, JudgesLine, KeepsReader, RunsOnce, StaysFound, TakesLine, TakesLog};
+ghost use Rattle.vme_judge.specs.Runs.{cause_by, cause_of, form_after, is_no_dump, log_whole, run_so_far, IsGoing, IsJudgedAs, IsOnceRun, IsOver, Judges, JudgesLine, KeepsReader, RunsOnce, StaysFound, TakesLine, TakesLog};
 ghost use Rattle.vme_judge.specs.Verdicts.{is_space};
 
 use crate::boards::Board;
@@ -187,16 +187,20 @@ impl<'a> Run<'a> {
         }
     }
 
-    /// Rejects a line of a log.
+    /// Rejects a line of a log, unless one was rejected before.
     fn reject(&mut self, why: Why, line: u64)
         ensures rejected { is_some self.new.rejection ≡ true }
+        ensures cause { cause_of self.new.rejection
+            ≡ (if is_some self.old.rejection then cause_of self.old.rejection else cause_by why (Some line)) }
         ensures judge { self.new.judge ≡ self.old.judge }
         ensures rest { KeepsReader self.old self.new }
     {
-        self.rejection = Some(Rejection {
-            why,
-            line: Some(line),
-        });
+        if self.rejection.is_none() {
+            self.rejection = Some(Rejection {
+                why,
+                line: Some(line),
+            });
+        }
     }
 
     /// Takes what a line of a log says.
@@ -228,6 +232,8 @@ impl<'a> Run<'a> {
     fn take_taken(&mut self, taken: Taken, line: u64) -> bool
         ensures rejected { is_some self.new.rejection ≡ (is_broken taken || is_some self.old.rejection) }
         ensures kept { is_broken taken ≡ false → self.new.rejection ≡ self.old.rejection }
+        ensures cause { cause_of self.new.rejection
+            ≡ (if is_some self.old.rejection then cause_of self.old.rejection else break_at line taken) }
         ensures goes { result ≡ true → taken ≡ Legal }
         ensures stops { result ≡ false → taken ≢ Legal }
         ensures judge { self.new.judge ≡ self.old.judge }

@@ -1,5 +1,5 @@
 use Rattle.std.proofs.Common.{Some, ap, ◌∙◌}
-use Rattle.vme_judge.specs.Logs.{addressed_by, is_broken, shown_by}
+use Rattle.vme_judge.specs.Logs.{addressed_by, break_at, is_broken, shown_by}
 use Rattle.vme_judge.specs.Samples.{datum_samples}
 use Rattle.vme_judge.specs.Standing.{HasFallen, course_then, samples_taken, standing, stands}
 use Rattle.vme_judge.proofs.Logs.{fell_after, first_fallen, if_ok, if_ok_both, one_after, shown_illegal}
@@ -18,6 +18,6 @@ returns-clause-taken c =
     let fell : HasFallen (standing c.open.new.judge) =
     fell_after (addressed_by c.args.spot c.args.datum.now) _ _ _ c.if-is_legal.false c.in_ok-is_legal.ensures.standing c.in_ok-is_legal.ensures.legal in
     if_ok_both _ _ _ c.illegal.result c.illegal.ensures.stands c.illegal.ensures.whole (λ taken same whole.
-    shown_illegal _ _ _ _ (is_broken taken) whole (ap stands same ∙ fell)
+    shown_illegal _ _ _ _ (is_broken taken) (break_at c.args.spot.line taken) whole (ap stands same ∙ fell)
     (same ∙ first_fallen (addressed_by c.args.spot c.args.datum.now) (samples_taken c.args.spot (datum_samples c.args.datum.now)) _ _ fell
     c.in_ok-is_legal.ensures.standing))

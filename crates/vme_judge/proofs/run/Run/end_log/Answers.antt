@@ -1,6 +1,6 @@
-use Rattle.std.proofs.Common.{ℕ, Some, refl, subst}
+use Rattle.std.proofs.Common.{ℕ, Some, None, refl, subst}
 use Rattle.vme_judge.specs.Runs.{TakesLine, run_so_far}
-use Rattle.vme_judge.proofs.Runs.{ended_refused, ended_taken}
+use Rattle.vme_judge.proofs.Runs.{ended_taken, line_is_refused}
 use Rattle.vme_judge.proofs.run.Run.end_log.Goals as goal
 
 pub returns-in_ok-take_entry-in-Ok-clause-judges : goal.returns-in_ok-take_entry-in-Ok-clause-judges
@@ -12,4 +12,8 @@ returns-in_ok-take_entry-in-Ok-clause-judges c =
 
 pub returns-in-Err-clause-judges : goal.returns-in-Err-clause-judges
 returns-in-Err-clause-judges c =
-    ended_refused c.args.self.now c.reject.new.self c.reject.ensures.rejected c.reject.ensures.judge c.in-Err.ensures.says
+    let P : ℕ → Type 0 = λ n. TakesLine c.args.self.now c.reject.new.self n None in
+    ended_taken c.args.self.now c.args.self.now c.reject.new.self None refl
+    (subst P c.number-line.ensures (line_is_refused c.args.self.now c.reject.new.self c.number-line.result c.reject.ensures.rejected
+    c.reject.ensures.cause c.reject.ensures.judge c.reject.ensures.rest.1))
+    c.in-Err.ensures.says

@@ -1,8 +1,8 @@
-use Rattle.std.proofs.Common.{ℕ, Some, refl, ap, subst}
+use Rattle.std.proofs.Common.{ℕ, Some, None, refl, ap, subst}
 use Rattle.vme_bus_log.specs.Texts.{Reading}
 use Rattle.vme_judge.specs.Runs.{TakesLine, run_so_far}
 use Rattle.vme_judge.proofs.Logs.{if_ok_both}
-use Rattle.vme_judge.proofs.Runs.{line_pushed, line_refused, is_over_rejected}
+use Rattle.vme_judge.proofs.Runs.{is_over_rejected, line_is_refused, line_pushed, line_refused}
 use Rattle.vme_judge.proofs.Blanks.{line_skipped, blanks_refused}
 use Rattle.vme_judge.proofs.run.Run.push_line.Goals as goal
 
@@ -16,8 +16,11 @@ returns-in-Ok-clause-judges c =
 
 pub returns-in-Err-clause-judges : goal.returns-in-Err-clause-judges
 returns-in-Err-clause-judges c =
-    line_refused c.args.self.now c.reject.new.self c.args.line.now c.reject.ensures.rejected c.reject.ensures.judge
-    c.in-Err.ensures.ends
+    let P : ℕ → Type 0 = λ n. TakesLine c.args.self.now c.reject.new.self n None in
+    line_refused c.args.self.now c.reject.new.self c.args.line.now
+    (subst P c.number-number.ensures (line_is_refused c.args.self.now c.reject.new.self c.number-number.result c.reject.ensures.rejected
+    c.reject.ensures.cause c.reject.ensures.judge c.reject.ensures.rest.1))
+    (is_over_rejected c.reject.new.self c.reject.ensures.rejected) c.in-Err.ensures.ends
 
 pub returns-in-Err-clause-stops : goal.returns-in-Err-clause-stops
 returns-in-Err-clause-stops c = λ stopped. is_over_rejected c.reject.new.self c.reject.ensures.rejected
