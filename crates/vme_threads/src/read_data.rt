@@ -144,7 +144,7 @@ impl ProcessorPass {
         requires fits { MatchesPorts ports.now self.old }
         requires there { read.now.board < self.old.boards }
         requires in_count { i < count_of read.now.bus.now.transfer.request }
-        requires room { length gathered.old.items ≤ 56 }
+        requires gathered { length gathered.old.items ≤ 56 }
         ensures { IfOk result (ReadsDatum read.now i self.old self.new gathered.old.items gathered.new.items) }
     {
         match self.try_board(ports, read.board, &read.datum(i))? {
@@ -171,7 +171,7 @@ impl ProcessorPass {
         requires fits { MatchesPorts ports.now self.old }
         requires there { read.board < self.old.boards }
         requires in_count { i < count_of read.bus.now.transfer.request }
-        requires room { length gathered.old.items ≤ 56 }
+        requires gathered { length gathered.old.items ≤ 56 }
         ensures { IfOk result (ReadsDatum read.entry i self.old self.new gathered.old.items gathered.new.items) }
     {
         let reply = self.call_board(rt, ports, read.board, &read.datum(i))?;
