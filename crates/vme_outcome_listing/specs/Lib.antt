@@ -3,6 +3,7 @@ pub mod ListedTexts
 pub mod Schedules
 pub mod Places
 pub mod Conditions
+pub mod Looks
 pub mod Outputs
 pub mod EngineTexts
 pub mod Ends

@@ -17,6 +17,7 @@ mod paragraph;
 mod place;
 mod print;
 mod replies;
+mod seen;
 mod text;
 mod write;
 

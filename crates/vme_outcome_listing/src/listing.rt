@@ -1,8 +1,8 @@
 //! The texts of all outcomes, in ascending order, and the answers to the conditions.
 ghost use Rattle.std.specs.Prelude.{◌≡◌, ◌++◌, IfOk, OnOk, is_none, flat_map, map, option_map};
-ghost use Rattle.vme_states.specs.Listings.{HasEach};
 ghost use Rattle.vme_outcome_listing.specs.ListedTexts.{IsTextListing, shown, text_of, listed_of};
 ghost use Rattle.vme_outcome_listing.specs.Conditions.{first_breaking, all_hold, condition_text};
+ghost use Rattle.vme_outcome_listing.specs.Looks.{HasEachFor};
 ghost use Rattle.vme_outcome_listing.specs.EngineTexts.{AreAnswers};
 
 use crate::claim::Claim;
@@ -31,12 +31,13 @@ pub(crate) fn list_texts<'a>(
     claims: &[Claim<'_>],
     outcomes: &'a [ListedOutcome],
 ) -> Result<TextListing<'a>, AllocError>
-    requires { HasEach config.now outcomes.now }
+    requires { HasEachFor (option_map (λ k. k.now) kept) config.now claims.now outcomes.now }
     ensures texts { IfOk result (λ listing.
         IsTextListing config.now (option_map (λ k. k.now) kept.entry)
         (map shown listing.paragraphs.items)) }
     ensures answers { IfOk result (λ listing.
-        AreAnswers config.now claims.now listing.answers.items listing.holds) }
+        AreAnswers (option_map (λ k. k.now) kept.entry) config.now claims.now
+        listing.answers.items listing.holds) }
 {
     let mut paragraphs = paragraphs_of(alloc, config, kept, outcomes)?;
     paragraphs.sort()?;

@@ -5,7 +5,7 @@ use Rattle.vme_outcome_listing.proofs.listing.list_texts.Goals as goal
 
 pub returns-clause-texts : goal.returns-clause-texts
 returns-clause-texts c =
-    listing_is c.args.config.now (option_map (λ k. k.now) c.args.kept) c.args.outcomes.now c.in_ok-paragraphs.paragraphs.items c.sort.new.self.items c.dedup.new.self.items
+    listing_is c.args.config.now (option_map (λ k. k.now) c.args.kept) c.args.claims.now c.args.outcomes.now c.in_ok-paragraphs.paragraphs.items c.sort.new.self.items c.dedup.new.self.items
     c.requires c.in_ok-paragraphs.ensures.texts c.sort.ensures.permutation c.in_ok-sort.ensures.sorted c.dedup.ensures.filtered
 
 pub returns-clause-answers : goal.returns-clause-answers
