@@ -20,7 +20,7 @@ impl ProcessorPass {
     ///
     /// # Errors
     /// `Spent` if the board has made 2^64 - 1 steps.
-    #[inline(always)]
+    // It has no `inline(always)`: the compiler then makes its loops simple before it inlines it.
     pub(crate) fn read_data<R: Wait>(
         &mut self,
         rt: &R,
