@@ -20,7 +20,7 @@ impl ProcessorPass {
     ///
     /// # Errors
     /// `Spent` if the board has made 2^64 - 1 steps.
-    // It has no `inline(always)`: the compiler then makes its loops simple before it inlines it.
+    // No `inline(always)` here and on `run_read`: the compiler makes the loops simple, and inlines them then.
     pub(crate) fn read_data<R: Wait>(
         &mut self,
         rt: &R,

@@ -141,7 +141,6 @@ impl ProcessorPass {
     ///
     /// # Errors
     /// `Spent` if an object has made 2^64 - 1 steps, or if the workers of these ports have to stop.
-    #[inline(always)]
     fn run_read<R: Wait>(
         &mut self,
         rt: &R,
