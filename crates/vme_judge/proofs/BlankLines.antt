@@ -15,8 +15,9 @@ use Rattle.vme_vcd_reader.specs.Words.{is_blank as is_word_end}
 use Rattle.vme_judge.specs.declared.run.Kind.{Kind}
 use Rattle.vme_judge.specs.declared.run.Kind.TheVariants as kinds
 use Rattle.vme_judge.specs.Blanks.{AreBlanks}
-use Rattle.vme_judge.specs.DumpTexts.{has_long_blanks}
+use Rattle.vme_judge.specs.DumpTexts.{long_blanks}
 use Rattle.vme_judge.specs.Runs.{form_after}
+use Rattle.vme_judge.specs.Seen.{one_more}
 use Rattle.vme_judge.specs.Verdicts.{is_space}
 use Rattle.vme_judge.proofs.Pieces.{form_on}
 
@@ -96,20 +97,22 @@ blanks_parts (b ∷ bytes) more are =
     (ap (λ test. let r : Kind = if test then form_after kinds.Unknown bytes else (if b == 36 then kinds.Dump else kinds.Log) in r) first.0 ∙ rest.0, rest.1)
 
 -- a blank within a line
-long_within : (blanks b : ℕ) (text : List ℕ) → is_space b ≡ true → (b == 10) ≡ false → has_long_blanks blanks (b ∷ text) ≡ has_long_blanks (blanks + 1) text
-long_within blanks b text is within = rw (is, within) refl
+long_within : (blanks line b : ℕ) (text : List ℕ) → is_space b ≡ true → (b == 10) ≡ false
+    → long_blanks blanks line (b ∷ text) ≡ long_blanks (blanks + 1) line text
+long_within blanks line b text is within = rw (is, within) refl
 
 -- blanks within a line, before more of it
-pub long_more : (blanks : ℕ) (part rest : List ℕ) → AreBlanks part → EndsNoLine part
-    → has_long_blanks blanks (part ++ rest) ≡ has_long_blanks (blanks + length part) rest
-long_more blanks [] rest are within = ap (λ n. has_long_blanks n rest) (omega arith)
-long_more blanks (b ∷ part) rest are within =
+pub long_more : (blanks line : ℕ) (part rest : List ℕ) → AreBlanks part → EndsNoLine part
+    → long_blanks blanks line (part ++ rest) ≡ long_blanks (blanks + length part) line rest
+long_more blanks line [] rest are within = ap (λ n. long_blanks n line rest) (omega arith)
+long_more blanks line (b ∷ part) rest are within =
     let first = blank_first b part are in
-    long_within blanks b (part ++ rest) first.0 (All-head (λ b. (b == 10) ≡ false) b part within)
-    ∙ long_more (blanks + 1) part rest first.1 (All-tail (λ b. (b == 10) ≡ false) b part within)
-    ∙ ap (λ n. has_long_blanks n rest) (omega arith)
+    long_within blanks line b (part ++ rest) first.0 (All-head (λ b. (b == 10) ≡ false) b part within)
+    ∙ long_more (blanks + 1) line part rest first.1 (All-tail (λ b. (b == 10) ≡ false) b part within)
+    ∙ ap (λ n. long_blanks n line rest) (omega arith)
 
 -- blanks that end a line
-pub long_ended : (blanks : ℕ) (part rest : List ℕ) → AreBlanks part → EndsNoLine part
-    → has_long_blanks blanks (part ++ 10 ∷ rest) ≡ (nat_lt 255 (blanks + length part) || has_long_blanks 0 rest)
-long_ended blanks part rest are within = long_more blanks part (10 ∷ rest) are within
+pub long_ended : (blanks line : ℕ) (part rest : List ℕ) → AreBlanks part → EndsNoLine part
+    → long_blanks blanks line (part ++ 10 ∷ rest)
+    ≡ (if nat_lt 255 (blanks + length part) then Some line else long_blanks 0 (one_more line) rest)
+long_ended blanks line part rest are within = long_more blanks line part (10 ∷ rest) are within

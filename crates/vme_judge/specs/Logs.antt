@@ -11,6 +11,7 @@ use Rattle.vme_bus_log.specs.declared.entry.LogAccess.{LogAccess}
 use Rattle.vme_bus_log.specs.declared.entry.LogDatum.{LogDatum}
 use Rattle.vme_bus_log.specs.declared.entry.LogEntry.{LogEntry}
 use Rattle.vme_bus_log.specs.declared.entry.LogEntry.TheVariants as entries
+use Rattle.vme_vcd_reader.specs.declared.fault.VcdFault.{VcdFault}
 use Rattle.vme_judge.specs.declared.fault.Status.{Status}
 use Rattle.vme_judge.specs.declared.fault.Status.TheVariants as statuses
 use Rattle.vme_judge.specs.declared.finding.Asked.TheVariants as askeds
@@ -26,11 +27,12 @@ use Rattle.vme_judge.specs.Samples.{address_samples, datum_samples, fall_samples
 use Rattle.vme_judge.specs.Seen.{has_counted, one_more, without_start}
 use Rattle.vme_judge.specs.Standing.{Course, Falls, Found, Standing, Stands, course_map, course_then, found_at, samples_taken}
 
--- why a text is rejected: the line with a number is none of a log, or does not go on from the line before; or for no line of a
--- log
+-- why a text is rejected: the line with a number is none of a log, does not go on from the line before, or is none of a dump, and
+-- why; or for no line
 pub data Cause : Type 0 where
   NoLine : ℕ → Cause
   Break : ℕ → LogBreak → Cause
+  NoDump : ℕ → VcdFault → Cause
   Other : Cause
 
 -- a log so far: legal, with what is remembered of it and the datum before, if its transfer may go on; illegal, once a line

@@ -9,7 +9,7 @@ use Rattle.vme_judge.specs.Standing.{Course, Falls, Found, HasFallen, IsStanding
 use Rattle.vme_judge.specs.declared.rejection.Rejection.{Rejection}
 use Rattle.vme_judge.specs.declared.rejection.Why.{Why}
 use Rattle.vme_judge.specs.declared.rejection.Why.TheVariants as whys
-use Rattle.vme_judge.specs.Logs.{Cause, NoLine, Break, Other, LogSoFar, Illegal, so_far, log_taken, next_taken}
+use Rattle.vme_judge.specs.Logs.{Cause, NoLine, Break, NoDump, Other, LogSoFar, Illegal, so_far, log_taken, next_taken}
 use Rattle.vme_judge.specs.Verdicts.{is_space}
 
 -- the form of a trace after some bytes: by the first one that is no blank
@@ -26,10 +26,11 @@ is_no_dump kinds.Dump = false
 is_no_dump kinds.Log = true
 is_no_dump kinds.Unknown = true
 
--- why a line of a log is rejected
+-- why a line of a text is rejected
 abbrev pub cause_by : Why → Option ℕ → Cause
 cause_by (whys.Log fault) (Some line) = NoLine line
 cause_by (whys.Break why) (Some line) = Break line why
+cause_by (whys.Dump fault) (Some line) = NoDump line fault
 cause_by why line = Other
 
 -- why a text is rejected, if it is

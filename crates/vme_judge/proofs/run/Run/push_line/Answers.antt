@@ -1,5 +1,4 @@
-use Rattle.std.proofs.Common.{ℕ, Some, None, refl, ap, subst}
-use Rattle.vme_bus_log.specs.Texts.{Reading}
+use Rattle.std.proofs.Common.{ℕ, Some, None, refl, subst}
 use Rattle.vme_judge.specs.Runs.{TakesLine, run_so_far}
 use Rattle.vme_judge.proofs.Logs.{if_ok_both}
 use Rattle.vme_judge.proofs.Runs.{is_over_rejected, line_is_refused, line_pushed, line_refused}
@@ -28,9 +27,9 @@ returns-in-Err-clause-stops c = λ stopped. is_over_rejected c.reject.new.self c
 pub returns-in-Ok-clause-blanks : goal.returns-in-Ok-clause-blanks
 returns-in-Ok-clause-blanks c = λ begin are is.
     line_skipped c.args.self.now c.take_entry.new.self c.end_with.new.self begin c.args.line.now _ c.take_entry.result is are c.requires
-    c.in-Ok.ensures.ends (ap (λ (r : Reading). r.line) c.in-Ok.ensures.next) c.take_entry.ensures.nothing
+    c.in-Ok.ensures.ends c.in-Ok.ensures.next c.take_entry.ensures.nothing
 
 pub returns-in-Err-clause-blanks : goal.returns-in-Err-clause-blanks
 returns-in-Err-clause-blanks c = λ begin are is.
-    blanks_refused c.args.self.now c.reject.new.self begin c.args.line.now is are c.requires c.in-Err.ensures.ends c.reject.ensures.rejected
-    c.reject.ensures.judge c.reject.ensures.rest.4
+    blanks_refused c.args.self.now c.reject.new.self begin c.args.line.now c.number-number.result is are c.requires c.in-Err.ensures.ends
+    c.reject.ensures.rejected c.reject.ensures.cause c.number-number.ensures c.reject.ensures.judge c.reject.ensures.rest.4
