@@ -1,5 +1,5 @@
 -- Blanks: what lines of them say, and how long they are.
-use Rattle.std.proofs.Common.{◌≡◌, ℕ, ◌+◌, Bool, true, false, not, ◌==◌, ◌||◌, nat_le, nat_lt, List, [], ◌∷◌, ◌++◌, length, arith, eqb-true, subst, Option, Some, None, refl, ap, sym, ◌∙◌}
+use Rattle.std.proofs.Common.{◌≡◌, ℕ, ◌+◌, Bool, true, false, not, ◌==◌, ◌||◌, nat_le, nat_lt, List, [], ◌∷◌, ◌++◌, length, arith, eqb-true, subst, Option, Some, None, Result, Ok, Err, ok_or, refl, ap, sym, ◌∙◌}
 use Rattle.std.specs.Prelude.{if◌then◌else◌}
 use Rattle.std.specs.List.{prefix_len}
 use Rattle.std.proofs.lemmas.Bool.{false≢true}
@@ -8,7 +8,8 @@ use Rattle.std.proofs.lemmas.List.Elements.{All-head, All-tail}
 use Rattle.std.proofs.Math.ListN.{drop_of_length-le}
 use Rattle.vme_bus_log.specs.declared.entry.LogEntry.{LogEntry}
 use Rattle.vme_bus_log.specs.declared.entry.LogEntry.TheVariants as entries
-use Rattle.vme_bus_log.specs.Entries.{entry_of, line_by}
+use Rattle.vme_bus_log.specs.Entries.{line_by}
+use Rattle.vme_bus_log.specs.Faults.{Fault, TooLong, entry_fault, entry_says}
 use Rattle.vme_bus_log.specs.Texts.{EndsNoLine, line_says, without_comment}
 use Rattle.vme_bus_log.specs.Words.{from_word, is_blank, next_word, cut_word}
 use Rattle.vme_vcd_reader.specs.Words.{is_blank as is_word_end}
@@ -78,11 +79,12 @@ all_before bytes are =
     (omega (arith, all_pass (λ b. not (b == 35)) bytes (λ b is. ap not (no_comment b is)) are))
 
 -- a line of blanks says nothing, unless it is too long
-pub blanks_say : (bytes : List ℕ) → AreBlanks bytes → line_says bytes ≡ (if nat_le (length bytes) 255 then Some entries.Nothing else None)
+pub blanks_say : (bytes : List ℕ) → AreBlanks bytes → line_says bytes ≡ (if nat_le (length bytes) 255 then Ok entries.Nothing else Err TooLong)
 unfolding line_says
 blanks_say bytes are =
-    ap (λ line. let r : Option LogEntry = if nat_le (length line) 255 then entry_of line else None in r) (all_before bytes are)
-    ∙ ap (λ said. let r : Option LogEntry = if nat_le (length bytes) 255 then said else None in r) (ap (line_by bytes) (no_word bytes are))
+    ap (λ line. let r : Result LogEntry Fault = if nat_le (length line) 255 then entry_says line else Err TooLong in r) (all_before bytes are)
+    ∙ ap (λ said. let r : Result LogEntry Fault = if nat_le (length bytes) 255 then said else Err TooLong in r)
+    (ap (λ word. ok_or (line_by bytes word) (entry_fault bytes word)) (no_word bytes are))
 
 -- blanks before further blanks
 pub blanks_on : (bytes more : List ℕ) → AreBlanks bytes → form_after kinds.Unknown (bytes ++ more) ≡ form_after kinds.Unknown more

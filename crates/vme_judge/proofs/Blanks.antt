@@ -1,5 +1,5 @@
 -- A run that takes lines of blanks before a trace.
-use Rattle.std.proofs.Common.{◌≡◌, ℕ, ◌+◌, Bool, true, false, ◌==◌, nat_le, nat_lt, inl, inr, List, [], ◌∷◌, ◌++◌, append_assoc, map, length, length-append, arith, le-leb, subst, Option, Some, None, is_some, Result, Ok, Err, IfOk, refl, ap, sym, ◌∙◌}
+use Rattle.std.proofs.Common.{◌≡◌, ℕ, ◌+◌, Bool, true, false, ◌==◌, nat_le, nat_lt, inl, inr, List, [], ◌∷◌, ◌++◌, append_assoc, map, length, length-append, arith, le-leb, subst, Option, Some, is_some, Result, Ok, Err, IfOk, refl, ap, sym, ◌∙◌}
 use Rattle.std.specs.Prelude.{if◌then◌else◌}
 use Rattle.std.specs.declared.alloc.AllocError.{AllocError}
 use Rattle.std.proofs.lemmas.Bool.{false≢true, lt-leb}
@@ -8,6 +8,7 @@ use Rattle.std.proofs.lemmas.List.Elements.{All-append, All-nil}
 use Rattle.std.proofs.lemmas.List.Splits.{slice_split_at}
 use Rattle.vme_bus_log.specs.declared.entry.LogEntry.{LogEntry}
 use Rattle.vme_bus_log.specs.declared.entry.LogEntry.TheVariants as entries
+use Rattle.vme_bus_log.specs.Faults.{Fault, TooLong}
 use Rattle.vme_bus_log.specs.Texts.{EndsNoLine, Reading, SaysAs, line_says, log_says}
 use Rattle.vme_judge.specs.declared.rejection.Rejection.{Rejection}
 use Rattle.vme_judge.specs.declared.run.Run.{Run}
@@ -19,9 +20,9 @@ use Rattle.vme_judge.specs.Seen.{one_more}
 use Rattle.vme_judge.proofs.BlankLines.{blank_first, blanks_on, blanks_parts, blanks_say, long_ended, long_more}
 
 -- what a reader says of a line that blanks alone fill
-said_blank : (begin part : List ℕ) (read : Reading) (said : Option LogEntry) → IsBlankLine begin read → AreBlanks part → EndsNoLine part
+said_blank : (begin part : List ℕ) (read : Reading) (said : Result LogEntry Fault) → IsBlankLine begin read → AreBlanks part → EndsNoLine part
     → ((rest : List ℕ) → log_says (read.line ++ (part ++ 10 ∷ rest)) ≡ said ∷ log_says rest)
-    → said ≡ (if nat_le (length begin + length part) 255 then Some entries.Nothing else None)
+    → said ≡ (if nat_le (length begin + length part) 255 then Ok entries.Nothing else Err TooLong)
 said_blank begin part read said is are within ends =
     let all : log_says ((begin ++ part) ++ 10 ∷ []) ≡ line_says (begin ++ part) ∷ log_says [] =
     ap (map line_says) (slice_split_at (λ b. b == 10) (begin ++ part) 10 [] (All-append (λ b. (b == 10) ≡ false) begin part is.within within) refl) in
@@ -29,7 +30,7 @@ said_blank begin part read said is are within ends =
     sym (ends []) ∙ sym (is.begin (part ++ 10 ∷ [])) ∙ ap log_says (sym (append_assoc begin part (10 ∷ []))) ∙ all in
     let first : said ≡ line_says (begin ++ part) = cc same in
     first ∙ blanks_say (begin ++ part) (blanks_on begin part is.blanks ∙ are)
-    ∙ ap (λ n. let r : Option LogEntry = if nat_le n 255 then Some entries.Nothing else None in r) (length-append begin part)
+    ∙ ap (λ n. let r : Result LogEntry Fault = if nat_le n 255 then Ok entries.Nothing else Err TooLong in r) (length-append begin part)
 
 -- a number is no more than 255, or more
 at_most : (n : ℕ) → nat_le n 255 ≡ true → nat_lt 255 n ≡ false
@@ -41,16 +42,17 @@ more_than n is = elim (leb_tells n 255) [ inl less ↦ absurd (false≢true (sym
 
 -- a line of blanks that is said to be nothing is short
 short_line : (n : ℕ) (test : Bool) (entry : LogEntry) → nat_le n 255 ≡ test
-    → Some entry ≡ (let r : Option LogEntry = if test then Some entries.Nothing else None in r)
+    → Ok entry ≡ (let r : Result LogEntry Fault = if test then Ok entries.Nothing else Err TooLong in r)
     → (entry ≡ entries.Nothing) × (nat_lt 255 n ≡ false)
 short_line n true entry is said = (cc said, at_most n is)
 short_line n false entry is said = absurd (cc said)
 
--- a line of blanks of which nothing is said is long
-long_line : (n : ℕ) (test : Bool) → nat_le n 255 ≡ test → None ≡ (let r : Option LogEntry = if test then Some entries.Nothing else None in r)
-    → nat_lt 255 n ≡ true
-long_line n true is said = absurd (cc said)
-long_line n false is said = more_than n is
+-- a line of blanks that is none of a log is long
+long_line : (n : ℕ) (test : Bool) (fault : Fault) → nat_le n 255 ≡ test
+    → Err fault ≡ (let r : Result LogEntry Fault = if test then Ok entries.Nothing else Err TooLong in r)
+    → (nat_lt 255 n ≡ true) × (fault ≡ TooLong)
+long_line n true fault is said = absurd (cc said)
+long_line n false fault is said = (more_than n is, cc said)
 
 -- a reader at the begin of a line
 pub fresh : (read : Reading) → read.line ≡ [] → IsBlankLine [] read
@@ -92,32 +94,37 @@ skipped old new read begin line are within short next is = record {
 -- the same by what the reader says
 pub line_skipped : (old new : Run) (read : Reading) (begin line : List ℕ) (entry : LogEntry) (result : Result Bool AllocError)
     → IsBlankLine begin old.log → AreBlanks line → EndsNoLine line
-    → ((rest : List ℕ) → log_says (old.log.line ++ (line ++ 10 ∷ rest)) ≡ Some entry ∷ log_says rest) → read ≡ next_after old.log
+    → ((rest : List ℕ) → log_says (old.log.line ++ (line ++ 10 ∷ rest)) ≡ Ok entry ∷ log_says rest) → read ≡ next_after old.log
     → (entry ≡ entries.Nothing → IfOk result (λ goes_on. (goes_on ≡ true) × (new ≡ record old { log = read })))
     → IfOk result (TakesBlanks begin old new (line ++ 10 ∷ []))
 line_skipped old new read begin line entry (Err fault) is are within ends next nothing = tt
 line_skipped old new read begin line entry (Ok goes_on) is are within ends next nothing =
     let short = short_line (length begin + length line) (nat_le (length begin + length line) 255) entry refl
-    (said_blank begin line old.log (Some entry) is are within ends) in
+    (said_blank begin line old.log (Ok entry) is are within ends) in
     let took = nothing short.0 in
     subst (TakesBlanks begin old new (line ++ 10 ∷ [])) (sym took.0) (skipped old new read begin line are within short.1 next took.1)
 
 -- a run that rejects a line of blanks
-pub blanks_refused : (old new : Run) (begin line : List ℕ) (number : ℕ) → IsBlankLine begin old.log → AreBlanks line → EndsNoLine line
-    → ((rest : List ℕ) → log_says (old.log.line ++ (line ++ 10 ∷ rest)) ≡ None ∷ log_says rest) → is_some new.rejection ≡ true
-    → cause_of new.rejection ≡ (if is_some old.rejection then cause_of old.rejection else NoLine number) → number ≡ old.log.number
+pub blanks_refused : (old new : Run) (begin line : List ℕ) (number : ℕ) (fault : Fault) → IsBlankLine begin old.log → AreBlanks line → EndsNoLine line
+    → ((rest : List ℕ) → log_says (old.log.line ++ (line ++ 10 ∷ rest)) ≡ Err fault ∷ log_says rest) → is_some new.rejection ≡ true
+    → cause_of new.rejection ≡ (if is_some old.rejection then cause_of old.rejection else NoLine number fault) → number ≡ old.log.number
     → new.judge ≡ old.judge → new.ports ≡ old.ports → TakesBlanks begin old new (line ++ 10 ∷ []) false
-blanks_refused old new begin line number is are within ends rejected cause same judge ports = record {
+blanks_refused old new begin line number fault is are within ends rejected cause same judge ports = record {
   judge = judge;
   ports = ports;
   reads = λ on. absurd (false≢true on);
   stops = λ _. record {
     rejected = rejected;
     number = number;
-    cause = cause;
+    cause =
+        cause
+        ∙ ap (λ fault. let c : Cause = if is_some old.rejection then cause_of old.rejection else NoLine number fault in c)
+        (long_line (length begin + length line) (nat_le (length begin + length line) 255) fault refl
+        (said_blank begin line old.log (Err fault) is are within ends)).1;
     lines = λ rest.
         line_end (length begin) old.log.number line rest true are within
-        (long_line (length begin + length line) (nat_le (length begin + length line) 255) refl (said_blank begin line old.log None is are within ends))
+        (long_line (length begin + length line) (nat_le (length begin + length line) 255) fault refl
+        (said_blank begin line old.log (Err fault) is are within ends)).0
         ∙ ap Some (sym same);
   };
 }
@@ -187,7 +194,7 @@ blanks_stop line old mid new bytes left part after goes_on to parts takes off =
         number = stops.number;
         cause =
             stops.cause
-            ∙ ap (λ (r : Option Rejection). let c : Cause = if is_some r then cause_of r else NoLine stops.number in c) to.rejection;
+            ∙ ap (λ (r : Option Rejection). let c : Cause = if is_some r then cause_of r else NoLine stops.number TooLong in c) to.rejection;
         lines = λ rest.
             to.lines rest ∙ ap (long_blanks (length to.after) mid.log.number) (left_then left part after rest parts)
             ∙ stops.lines (after ++ rest);

@@ -4,6 +4,7 @@ use Rattle.std.specs.Prelude.{if◌then◌else◌}
 use Rattle.std.specs.declared.alloc.AllocError.{AllocError}
 use Rattle.std.proofs.lemmas.Bool.{false≢true}
 use Rattle.std.proofs.lemmas.List.{drop_more, take-append-drop, take_more}
+use Rattle.vme_bus_log.specs.Faults.{TooLong}
 use Rattle.vme_line_map.specs.Variables.{Map}
 use Rattle.vme_vcd_reader.specs.declared.reader.Step.{Step}
 use Rattle.vme_vcd_reader.specs.declared.reader.VcdReader.{VcdReader}
@@ -156,7 +157,7 @@ dump_barred map line old new bytes blanks text on off takes parts =
     record {
       reads = λ on. absurd (false≢true on);
       stops = λ _ rest.
-          text_broken old new (blanks_whole map line old (bytes ++ rest)) (NoLine stops.number)
+          text_broken old new (blanks_whole map line old (bytes ++ rest)) (NoLine stops.number TooLong)
           (ap (λ bytes. blanks_whole map line old (bytes ++ rest)) parts
           ∙ ap (blanks_whole map line old) (append_assoc blanks text rest)
           ∙ ap (λ long. after_blanks long (dump_so_far old) (text_whole map old (InHeader beginning []) (blanks ++ (text ++ rest))))

@@ -2,6 +2,7 @@
 use Rattle.std.proofs.Common.{◌≡◌, ◌≢◌, ℕ, Bool, true, false, ◌==◌, inl, inr, ◌⊎◌, List, [], ◌++◌, eqb-true, subst, Option, Some, None, IfSome, is_some, refl, ap, sym, ◌∙◌}
 use Rattle.std.specs.Io.KnownBytes.{Consumes, IsAtEnd}
 use Rattle.std.proofs.lemmas.Bool.{cases_Bool, eqb-false, false≢true}
+use Rattle.vme_bus_log.specs.Faults.{TooLong}
 use Rattle.vme_line_map.specs.Variables.{Map}
 use Rattle.vme_protocol.specs.declared.port.Port.{Port}
 use Rattle.vme_vcd_reader.specs.Headers.{beginning}
@@ -98,7 +99,7 @@ module _ (o : Options) (map : Map) (boards : List Board) (run new : Run) (text r
       record {
         kind = λ none. absurd (false≢true (sym (ap is_some none) ∙ stops.rejected));
         judged =
-            text_broken run new (dump_of o map boards text) (NoLine stops.number)
+            text_broken run new (dump_of o map boards text) (NoLine stops.number TooLong)
             (is.judged ∙ ap (blanks_whole map is.line run) same
             ∙ ap (λ long. after_blanks long (dump_so_far run) (text_whole map run (InHeader beginning []) (piece ++ next))) (stops.lines next))
             (stops.rejected, stops.cause) takes.1.takes.judge;

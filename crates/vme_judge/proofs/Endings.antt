@@ -55,7 +55,7 @@ rejected_for : (why : Why) (line : Option ℕ) (e : Ending) → e.rejection ≡ 
 rejected_for (whys.Dump fault) None e is = ap is_some is
 rejected_for (whys.Dump fault) (Some line) e is = is
 rejected_for (whys.Log fault) None e is = ap is_some is
-rejected_for (whys.Log fault) (Some line) e is = (fault, is)
+rejected_for (whys.Log fault) (Some line) e is = (fault, refl, is)
 rejected_for (whys.Break why) None e is = ap is_some is
 rejected_for (whys.Break why) (Some line) e is = is
 rejected_for whys.Nothing line e is = ap is_some is

@@ -1,6 +1,7 @@
 -- The blanks before a trace, which are lines of a log and nothing of a dump.
 use Rattle.std.specs.Prelude.{◌≡◌, ℕ, Bool, true, false, if◌then◌else◌, List, [], ◌∷◌, ◌++◌, length, Some, is_some}
 use Rattle.vme_line_map.specs.Variables.{Map}
+use Rattle.vme_bus_log.specs.Faults.{TooLong}
 use Rattle.vme_bus_log.specs.Texts.{EndsNoLine, Reading, SaysAs}
 use Rattle.vme_vcd_reader.specs.declared.reader.VcdReader.{VcdReader}
 use Rattle.vme_vcd_reader.specs.Bodies.{line_after}
@@ -37,7 +38,7 @@ pub record ReadsBlanks (line : List ℕ) (old new : Run) (bytes : List ℕ) : Ty
 pub record RejectsBlanks (line : List ℕ) (old new : Run) (bytes : List ℕ) : Type 0 where
   pub rejected : is_some new.rejection ≡ true
   pub number : ℕ
-  pub cause : cause_of new.rejection ≡ (if is_some old.rejection then cause_of old.rejection else NoLine number)
+  pub cause : cause_of new.rejection ≡ (if is_some old.rejection then cause_of old.rejection else NoLine number TooLong)
   pub lines : (rest : List ℕ) → long_blanks (length line) old.log.number (bytes ++ rest) ≡ Some number
 
 -- a run has taken blanks after those of a line: it reads on, or has rejected them
@@ -70,7 +71,8 @@ pub record SkipsBlanks (map : Map) (line : List ℕ) (old new : Run) (bytes : Li
 -- the whole dump, if blanks of a line are read and this text is left
 abbrev pub blanks_whole : Map → List ℕ → Run → List ℕ → DumpSoFar
 blanks_whole map line run rest =
-    after_blanks (long_blanks (length line) run.log.number rest) (dump_so_far run) (text_whole map run (InHeader beginning []) rest)
+    after_blanks (long_blanks (length line) run.log.number rest) (dump_so_far run)
+    (text_whole map run (InHeader beginning []) rest)
 
 -- a run has judged the first bytes of a dump, after blanks of a line, and reads on
 pub record ReadsFirst (map : Map) (line : List ℕ) (old new : Run) (bytes : List ℕ) : Type 0 where

@@ -1,5 +1,6 @@
 -- Which texts are legal dumps: a header, byte by byte, and the samples of the body that follows it.
 use Rattle.std.specs.Prelude.{◌≡◌, ◌≢◌, ℕ, ◌+◌, nat_lt, true, not, ◌==◌, if◌then◌else◌, ◌⊎◌, List, [], ◌∷◌, ◌++◌, map as map_list, replicate, Option, Some, None, Result, Ok, Err}
+use Rattle.vme_bus_log.specs.Faults.{TooLong}
 use Rattle.vme_line_map.specs.Variables.{Map}
 use Rattle.vme_vcd_reader.specs.declared.fault.VcdFault.{VcdFault}
 use Rattle.vme_vcd_reader.specs.declared.presence.Presence.{Presence}
@@ -68,7 +69,7 @@ long_blanks blanks line (b ∷ text) =
 -- a dump after blanks, of which a line may be too long
 abbrev pub after_blanks : Option ℕ → DumpSoFar → DumpSoFar → DumpSoFar
 after_blanks None d whole = whole
-after_blanks (Some line) d whole = broken_off (NoLine line) d
+after_blanks (Some line) d whole = broken_off (NoLine line TooLong) d
 
 -- a dump of which nothing is judged
 abbrev pub unjudged : Options → List Board → DumpSoFar

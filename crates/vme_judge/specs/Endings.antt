@@ -2,6 +2,7 @@
 use Rattle.std.specs.Prelude.{◌≡◌, ℕ, Bool, not, ◌==◌, ◌||◌, if◌then◌else◌, List, [], Option, Some, None, IsSome, is_some}
 use Rattle.std.specs.Io.KnownBytes.{Appends}
 use Rattle.vme_bus_log.specs.declared.fault.LogFault.{LogFault}
+use Rattle.vme_bus_log.specs.Faults.{reported}
 use Rattle.vme_line_map.specs.Variables.{Map}
 use Rattle.vme_vcd_reader.specs.declared.presence.Presence.{Presence}
 use Rattle.vme_vcd_reader.specs.Presences.{no_lines}
@@ -46,9 +47,10 @@ judged_ending kind presence finding counts transfer = record {
   is_within = is_some transfer;
 }
 
--- a text is rejected for a cause; which fault a line has that is none of a log is not stated
+-- a text is rejected for a cause
 abbrev pub IsRejectedFor : Cause → Ending → Type 0
-IsRejectedFor (NoLine line) e = (fault : LogFault) × (e.rejection ≡ Some (record { why = whys.Log fault; line = Some line }))
+IsRejectedFor (NoLine line wrong) e =
+    (fault : LogFault) × (reported fault ≡ wrong) × (e.rejection ≡ Some (record { why = whys.Log fault; line = Some line }))
 IsRejectedFor (Break line why) e = e.rejection ≡ Some (record { why = whys.Break why; line = Some line })
 IsRejectedFor (NoDump line fault) e = e.rejection ≡ Some (record { why = whys.Dump fault; line = Some line })
 IsRejectedFor Other e = IsSome e.rejection

@@ -1,5 +1,5 @@
 //! A trace, byte by byte.
-ghost use Rattle.std.specs.Prelude.{◌≡◌, ◌≢◌, ◌||◌, ℕ, List, [], ◌∷◌, ◌++◌, true, false, Some, None, replicate, is_some, IfOk, if◌then◌else◌};
+ghost use Rattle.std.specs.Prelude.{◌≡◌, ◌≢◌, ◌||◌, ℕ, List, [], ◌∷◌, ◌++◌, true, false, Ok, Some, None, replicate, is_some, IfOk, if◌then◌else◌};
 ghost use Rattle.vme_judge.specs.declared.run.Kind.TheVariants.{Dump, Unknown};
 ghost use Rattle.vme_judge.specs.declared.log.Taken.TheVariants.{Legal};
 ghost use Rattle.vme_bus_log.specs.declared.entry.LogEntry.TheVariants.{Nothing};
@@ -203,7 +203,7 @@ impl<'a> Run<'a> {
 
     /// Takes what a line of a log says.
     fn take_entry(&mut self, entry: &LogEntry, line: u64) -> Result<bool, AllocError>
-        ensures line { IfOk result (λ _. TakesLine self.old self.new line (Some entry.now)) }
+        ensures line { IfOk result (λ _. TakesLine self.old self.new line (Ok entry.now)) }
         ensures stays { IfOk result (λ _. StaysFound self.old self.new) }
         ensures stops { IfOk result (λ goes_on. goes_on ≡ false → IsOver (run_so_far self.new)) }
         ensures once { IfOk result (λ goes_on. RunsOnce self.old self.new goes_on) }
