@@ -1,5 +1,5 @@
 -- The lines of a text that is read byte by byte.
-use Rattle.std.proofs.Common.{◌≡◌, ℕ, ◌<◌, Bool, true, false, not, ◌==◌, nat_le, List, [], ◌∷◌, ◌++◌, length, map, get_or, take, ◌+◌, All, Option, None, Result, Ok, Err, IsErr, refl, ap, sym, ◌∙◌, append_assoc, append-nil, arith, length-append, le-leb, ne_eqb, ◌≢◌}
+use Rattle.std.proofs.Common.{◌≡◌, ℕ, ◌<◌, Bool, true, false, not, ◌==◌, nat_le, List, [], ◌∷◌, ◌++◌, length, map, get_or, take, ◌+◌, All, Result, Ok, Err, IfErr, ok_or, refl, ap, sym, ◌∙◌, append_assoc, append-nil, arith, length-append, le-leb, ne_eqb, ◌≢◌}
 use Rattle.std.specs.Prelude.{if◌then◌else◌}
 use Rattle.std.specs.List.{slice_split, onto_first}
 use Rattle.std.specs.Result.{result_ok}
@@ -9,7 +9,10 @@ use Rattle.std.proofs.lemmas.List.Splits.{slice_split-cons_no, slice_split_at, s
 use Rattle.std.proofs.lemmas.List.{take_more}
 use Rattle.std.proofs.lemmas.List.Sums.{take_while-cons}
 use Rattle.vme_bus_log.specs.declared.entry.LogEntry.{LogEntry}
+use Rattle.vme_bus_log.specs.declared.fault.LogFault.{LogFault}
 use Rattle.vme_bus_log.specs.Entries.{entry_of}
+use Rattle.vme_bus_log.specs.Faults.{Fault, TooLong, entry_fault, entry_says, reported, returned}
+use Rattle.vme_bus_log.specs.Words.{next_word}
 use Rattle.vme_bus_log.specs.Texts.{without_comment, line_says, log_says, EndsNoLine, SaysAs, line_so_far, IsKept}
 
 -- the byte ends no line
@@ -68,10 +71,10 @@ unfolding line_says
 comment_says kept tail before =
     let with : without_comment (kept ++ 35 ∷ tail) ≡ kept = before_begun kept (35 ∷ tail) before ∙ append-nil kept in
     let alone : without_comment kept ≡ kept = ap without_comment (sym (append-nil kept)) ∙ before_begun kept [] before ∙ append-nil kept in
-    ap (λ line. if nat_le (length line) 255 then entry_of line else None) (with ∙ sym alone)
+    ap (λ line. if nat_le (length line) 255 then entry_says line else Err TooLong) (with ∙ sym alone)
 
 -- a line of more than 255 bytes before its comment says nothing
-long_says : (kept tail : List ℕ) (byte : ℕ) → All Before kept → length kept ≡ 255 → Before byte → line_says (kept ++ byte ∷ tail) ≡ None
+long_says : (kept tail : List ℕ) (byte : ℕ) → All Before kept → length kept ≡ 255 → Before byte → line_says (kept ++ byte ∷ tail) ≡ Err TooLong
 unfolding line_says
 long_says kept tail byte before full this =
     let is : without_comment (kept ++ byte ∷ tail) ≡ kept ++ byte ∷ without_comment tail = before_begun kept (byte ∷ tail) before ∙ ap (λ ys. kept ++ ys) (before_first byte tail this) in
@@ -80,7 +83,7 @@ long_says kept tail byte before full this =
     rw past refl
 
 -- what a line says that has no more than it may and no comment
-kept_says : (kept : List ℕ) (long : Bool) → IsKept kept long → line_says kept ≡ entry_of kept
+kept_says : (kept : List ℕ) (long : Bool) → IsKept kept long → line_says kept ≡ entry_says kept
 unfolding line_says
 kept_says kept long is =
     let alone : without_comment kept ≡ kept =
@@ -103,19 +106,19 @@ so_far_within kept long comment is =
 
 -- what a line says that has ended, by what is kept of it
 line_is : (kept : List ℕ) (long comment : Bool) → IsKept kept long
-    → line_says (line_so_far kept long comment) ≡ (if long then None else entry_of kept)
+    → line_says (line_so_far kept long comment) ≡ (if long then Err TooLong else entry_says kept)
 line_is kept true comment is = long_says kept (if comment then 35 ∷ [] else []) 0 is.before (is.full refl) refl
 line_is kept false true is = comment_says kept [] is.before ∙ kept_says kept false is
 line_is kept false false is = ap line_says (append-nil kept) ∙ kept_says kept false is
 
 -- what is said of a line that has ended: nothing if it is too long, else what is kept says
-pub record HasEnded (line kept : List ℕ) (long comment : Bool) (said : Option LogEntry) : Type 0 where
+pub record HasEnded (line kept : List ℕ) (long comment : Bool) (said : Result LogEntry Fault) : Type 0 where
   pub is : line_so_far kept long comment ≡ line
   pub kept_is : IsKept kept long
-  pub says : said ≡ (if long then None else entry_of kept)
+  pub says : said ≡ (if long then Err TooLong else entry_says kept)
 
 -- the line that a reader ends is the first one of the text that is left
-pub ended : (line kept : List ℕ) (long comment : Bool) (said : Option LogEntry) → HasEnded line kept long comment said
+pub ended : (line kept : List ℕ) (long comment : Bool) (said : Result LogEntry Fault) → HasEnded line kept long comment said
     → (rest : List ℕ) → log_says (line ++ 10 ∷ rest) ≡ said ∷ log_says rest
 ended line kept long comment said has rest =
     ap (λ begin. log_says (begin ++ 10 ∷ rest)) (sym has.is)
@@ -123,7 +126,7 @@ ended line kept long comment said has rest =
     ∙ ap (λ first. first ∷ log_says rest) (line_is kept long comment has.kept_is ∙ sym has.says)
 
 -- the line with which the text ends is the only one that is left
-pub ended_last : (line kept : List ℕ) (long comment : Bool) (said : Option LogEntry) → HasEnded line kept long comment said
+pub ended_last : (line kept : List ℕ) (long comment : Bool) (said : Result LogEntry Fault) → HasEnded line kept long comment said
     → log_says line ≡ said ∷ []
 ended_last line kept long comment said has =
     ap log_says (sym has.is)
@@ -132,24 +135,25 @@ ended_last line kept long comment said has =
 
 -- a line that is too long
 pub ends_long : (line kept : List ℕ) (long comment : Bool) → line_so_far kept long comment ≡ line → IsKept kept long → long ≡ true
-    → HasEnded line kept long comment None
+    → HasEnded line kept long comment (Err TooLong)
 ends_long line kept long comment is kept_is past =
-    record { is = is; kept_is = kept_is; says = sym (ap (λ (test : Bool). if test then None else entry_of kept) past) }
+    record { is = is; kept_is = kept_is; says = sym (ap (λ (test : Bool). if test then Err TooLong else entry_says kept) past) }
 
 -- a line that is not
-pub ends_short : (line kept read : List ℕ) (long comment : Bool) (said : Option LogEntry) → line_so_far kept long comment ≡ line
-    → IsKept kept long → long ≡ false → read ≡ kept → said ≡ entry_of read → HasEnded line kept long comment said
+pub ends_short : (line kept read : List ℕ) (long comment : Bool) (said : Result LogEntry Fault) → line_so_far kept long comment ≡ line
+    → IsKept kept long → long ≡ false → read ≡ kept → said ≡ entry_says read → HasEnded line kept long comment said
 ends_short line kept read long comment said is kept_is short same says =
     record {
       is = is;
       kept_is = kept_is;
-      says = says ∙ ap entry_of same ∙ sym (ap (λ (test : Bool). if test then None else entry_of kept) short);
+      says = says ∙ ap entry_says same ∙ sym (ap (λ (test : Bool). if test then Err TooLong else entry_says kept) short);
     }
 
--- an error has no value
-pub no_value : {T E : Type 0} (result : Result T E) → IsErr result → result_ok result ≡ None
-no_value (Ok value) err = absurd (cc err)
-no_value (Err fault) err = refl
+-- what is returned of a line, by what it says and what is wrong with it
+pub returned_as : (text : List ℕ) (result : Result LogEntry LogFault) → result_ok result ≡ entry_of text
+    → IfErr result (λ fault. entry_fault text (next_word text) ≡ reported fault) → returned result ≡ entry_says text
+returned_as text (Ok entry) says why = ap (λ said. ok_or said (entry_fault text (next_word text))) says
+returned_as text (Err fault) says why = ap Err (sym why) ∙ ap (λ said. ok_or said (entry_fault text (next_word text))) says
 
 -- one more byte after the # of its comment changes nothing that a line says
 comment_tail : (kept : List ℕ) (long : Bool) (byte : ℕ) → IsKept kept long → (tail : List ℕ)
@@ -170,7 +174,7 @@ comment_put kept true = append_assoc kept (0 ∷ []) (35 ∷ [])
 
 -- a line with a byte past the limit says nothing
 long_tail : (kept : List ℕ) (long : Bool) (byte : ℕ) (tail : List ℕ) → IsKept kept long → length kept ≡ 255 → Before byte
-    → line_says ((line_so_far kept long false ++ byte ∷ []) ++ tail) ≡ None
+    → line_says ((line_so_far kept long false ++ byte ∷ []) ++ tail) ≡ Err TooLong
 long_tail kept false byte tail is full before =
     ap line_says (append_assoc (kept ++ []) (byte ∷ []) tail ∙ append_assoc kept [] (byte ∷ tail))
     ∙ long_says kept tail byte is.before full before
@@ -178,7 +182,7 @@ long_tail kept true byte tail is full before =
     ap line_says (append_assoc (kept ++ 0 ∷ []) (byte ∷ []) tail ∙ append_assoc kept (0 ∷ []) (byte ∷ tail))
     ∙ long_says kept (byte ∷ tail) 0 is.before full refl
 
-long_more : (kept tail : List ℕ) → All Before kept → length kept ≡ 255 → line_says (line_so_far kept true false ++ tail) ≡ None
+long_more : (kept tail : List ℕ) → All Before kept → length kept ≡ 255 → line_says (line_so_far kept true false ++ tail) ≡ Err TooLong
 long_more kept tail before full = ap line_says (append_assoc kept (0 ∷ []) tail) ∙ long_says kept tail 0 before full refl
 
 -- a byte of a comment changes nothing
@@ -237,14 +241,14 @@ says_more old mid new part i b d less is one two = λ rest.
     ∙ one (b ∷ rest) ∙ ap log_says (sym (append_assoc mid (b ∷ []) rest)) ∙ two rest
 
 -- a line of which nothing was taken before
-pub whole_line : (line part : List ℕ) (said : Option LogEntry) → line ≡ [] → EndsNoLine part → said ≡ line_says part
+pub whole_line : (line part : List ℕ) (said : Result LogEntry Fault) → line ≡ [] → EndsNoLine part → said ≡ line_says part
     → (rest : List ℕ) → log_says (line ++ (part ++ 10 ∷ rest)) ≡ said ∷ log_says rest
 whole_line line part said empty within says rest =
     ap (λ begin. log_says (begin ++ (part ++ 10 ∷ rest))) empty
     ∙ ap (map line_says) (slice_split_at (λ b. b == 10) part 10 rest within refl) ∙ ap (λ first. first ∷ log_says rest) (sym says)
 
 -- a line of which a begin was taken before
-pub kept_line : (line part kept : List ℕ) (said : Option LogEntry) → SaysAs (line ++ part) kept
+pub kept_line : (line part kept : List ℕ) (said : Result LogEntry Fault) → SaysAs (line ++ part) kept
     → ((rest : List ℕ) → log_says (kept ++ 10 ∷ rest) ≡ said ∷ log_says rest)
     → (rest : List ℕ) → log_says (line ++ (part ++ 10 ∷ rest)) ≡ said ∷ log_says rest
 kept_line line part kept said says ends rest =

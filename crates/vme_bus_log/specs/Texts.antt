@@ -1,19 +1,19 @@
 -- The text of a bus log: its lines, and what each of them says.
-use Rattle.std.specs.Prelude.{◌≡◌, ℕ, ◌<◌, ◌≤◌, nat_le, Bool, true, false, not, ◌==◌, if◌then◌else◌, List, [], ◌∷◌, ◌++◌, length, map, Option, None}
+use Rattle.std.specs.Prelude.{◌≡◌, ℕ, ◌<◌, ◌≤◌, nat_le, Bool, true, false, not, ◌==◌, if◌then◌else◌, List, [], ◌∷◌, ◌++◌, length, map, Result, Err}
 use Rattle.std.specs.List.{All, slice_split, take_while}
 use Rattle.vme_bus_log.specs.declared.entry.LogEntry.{LogEntry}
-use Rattle.vme_bus_log.specs.Entries.{entry_of}
+use Rattle.vme_bus_log.specs.Faults.{Fault, TooLong, entry_says}
 
 -- a line without its comment, which begins with #
 abbrev pub without_comment : List ℕ → List ℕ
 without_comment line = take_while (λ b. not (b == 35)) line
 
--- what a line of a text says, if it is one of a log: it has at most 255 bytes before its comment
-unfoldable pub line_says : List ℕ → Option LogEntry
-line_says line = if nat_le (length (without_comment line)) 255 then entry_of (without_comment line) else None
+-- what a line of a text says, or why it is none of a log: it has at most 255 bytes before its comment
+unfoldable pub line_says : List ℕ → Result LogEntry Fault
+line_says line = if nat_le (length (without_comment line)) 255 then entry_says (without_comment line) else Err TooLong
 
 -- what each line of a text says; a line ends with a line feed, the last one with the text
-abbrev pub log_says : List ℕ → List (Option LogEntry)
+abbrev pub log_says : List ℕ → List (Result LogEntry Fault)
 log_says text = map line_says (slice_split (λ b. b == 10) text)
 
 -- a text has no line feed

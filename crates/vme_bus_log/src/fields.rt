@@ -1,9 +1,10 @@
 //! The fields of a line, one after another.
-ghost use Rattle.std.specs.Prelude.{◌≡◌, ◌≤◌, length, codes, IsTrue};
+ghost use Rattle.std.specs.Prelude.{◌≡◌, ◌≤◌, length, codes, is_some, true, IfOk, IfErr, IsTrue};
 ghost use Rattle.std.specs.Option.{option_map};
 ghost use Rattle.std.specs.Result.{result_ok};
 ghost use Rattle.vme_lexer.specs.Numbers.{hex_digit};
 ghost use Rattle.vme_bus_log.specs.Words.{next_word};
+ghost use Rattle.vme_bus_log.specs.Faults.{reported, word_fault};
 ghost use Rattle.vme_bus_log.specs.Fields.{after_name, value_in, level, level_in, count, count_in, hex_in, is_idle, four_by, shifted, data_lines, data_of, data_in};
 
 use crate::fault::LogFault;
@@ -45,7 +46,9 @@ impl<'a> Fields<'a> {
 
     /// Takes the next word, which begins with this name, and returns what follows the name.
     pub(crate) fn value(&mut self, name: &'static str) -> Result<&'a [u8], LogFault>
-        ensures { option_map (λ value. (value.now, self.new.rest.now)) (result_ok result) ≡ value_in name.now self.old.rest.now }
+        ensures says { option_map (λ value. (value.now, self.new.rest.now)) (result_ok result) ≡ value_in name.now self.old.rest.now }
+        ensures why { IfErr result (λ fault. reported fault ≡ word_fault name.now self.old.rest.now) }
+        ensures there { IfOk result (λ _. is_some (next_word self.old.rest.now) ≡ true) }
     {
         let Some(word) = self.word() else {
             return Err(LogFault::Missing(name));
@@ -58,7 +61,8 @@ impl<'a> Fields<'a> {
 
     /// Takes a level: 0 or 1. Another level is one that a line must not have at an answer.
     pub(crate) fn level(&mut self, name: &'static str) -> Result<bool, LogFault>
-        ensures { option_map (λ it. (it, self.new.rest.now)) (result_ok result) ≡ level_in name.now self.old.rest.now }
+        ensures says { option_map (λ it. (it, self.new.rest.now)) (result_ok result) ≡ level_in name.now self.old.rest.now }
+        ensures why { IfErr result (λ fault. reported fault ≡ word_fault name.now self.old.rest.now) }
     {
         match self.value(name)? {
             b"0" => Ok(false),
@@ -69,7 +73,9 @@ impl<'a> Fields<'a> {
 
     /// Takes a decimal number below 2^32.
     pub(crate) fn count(&mut self, name: &'static str) -> Result<u32, LogFault>
-        ensures { option_map (λ it. (it, self.new.rest.now)) (result_ok result) ≡ count_in name.now self.old.rest.now }
+        ensures says { option_map (λ it. (it, self.new.rest.now)) (result_ok result) ≡ count_in name.now self.old.rest.now }
+        ensures why { IfErr result (λ fault. reported fault ≡ word_fault name.now self.old.rest.now) }
+        ensures there { IfOk result (λ _. is_some (next_word self.old.rest.now) ≡ true) }
     {
         match count_of(self.value(name)?) {
             Some(number) => Ok(number),
@@ -80,7 +86,9 @@ impl<'a> Fields<'a> {
     /// Takes a hexadecimal number of so many digits, at most eight.
     pub(crate) fn hex(&mut self, name: &'static str, digits: usize) -> Result<u32, LogFault>
         requires { digits ≤ 8 }
-        ensures { option_map (λ it. (it, self.new.rest.now)) (result_ok result) ≡ hex_in name.now digits self.old.rest.now }
+        ensures says { option_map (λ it. (it, self.new.rest.now)) (result_ok result) ≡ hex_in name.now digits self.old.rest.now }
+        ensures why { IfErr result (λ fault. reported fault ≡ word_fault name.now self.old.rest.now) }
+        ensures there { IfOk result (λ _. is_some (next_word self.old.rest.now) ≡ true) }
     {
         match hex_number(digits, self.value(name)?) {
             Some(number) => Ok(number),
@@ -91,7 +99,8 @@ impl<'a> Fields<'a> {
     /// Takes the data lines: eight or sixteen digits, of which those of idle lines are none. Returns
     /// the levels, the idle lines, and whether there are sixteen.
     pub(crate) fn data(&mut self, name: &'static str) -> Result<(u64, u64, bool), LogFault>
-        ensures { option_map (λ it. (it, self.new.rest.now)) (result_ok result) ≡ data_in name.now self.old.rest.now }
+        ensures says { option_map (λ it. (it, self.new.rest.now)) (result_ok result) ≡ data_in name.now self.old.rest.now }
+        ensures why { IfErr result (λ fault. reported fault ≡ word_fault name.now self.old.rest.now) }
     {
         let word = self.value(name)?;
         match data_lines(word) {

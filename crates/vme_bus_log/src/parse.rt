@@ -1,11 +1,12 @@
 //! A line of a bus log.
-ghost use Rattle.std.specs.Prelude.{◌≡◌, ◌↔◌, None, IsOk};
+ghost use Rattle.std.specs.Prelude.{◌≡◌, ◌↔◌, ℕ, List, ◌++◌, codes, None, IfErr, IfOk, IfSome, IsOk};
 ghost use Rattle.std.specs.Option.{option_map, option_and_then};
 ghost use Rattle.std.specs.Result.{result_ok};
 ghost use Rattle.vme_lexer.specs.Numbers.{hex_number};
 ghost use Rattle.vme_bus_log.specs.Words.{next_word};
 ghost use Rattle.vme_bus_log.specs.Fields.{reads};
 ghost use Rattle.vme_bus_log.specs.Entries.{modifier_in, names_in, levels_in, answer_word, slot_in, holder_by, answer_in, datum_in, direction, bytes_of, access_names_in, access_bytes_in, said_access, said_by, entry_of};
+ghost use Rattle.vme_bus_log.specs.Faults.{access_name_words, answer_words, byte_words, datum_words, entry_fault, level_words, line_fault, name_words, reported, returned, said_fault, slot_words, word_fault, words_fault, Fault, MoreWords};
 ghost use Rattle.vme_bus_log.specs.Texts.{line_says};
 
 use crate::cut::without_comment;
@@ -21,9 +22,9 @@ use vme_lexer::hex_number;
 const LAST_SLOT: u32 = 21;
 
 /// Returns what a whole line says.
-#[tactic(auto, unfolding(crate::specs::Texts::line_says))]
+#[tactic(auto, unfolding(crate::specs::Texts::line_says), using(crate::proofs::Lines::returned_as))]
 pub(crate) fn parse_line(line: &[u8]) -> Result<LogEntry, LogFault>
-    ensures { result_ok result ≡ line_says line.now }
+    ensures { returned result ≡ line_says line.now }
 {
     let line = without_comment(line);
     if LINE_LIMIT < line.len() {
@@ -38,7 +39,8 @@ pub(crate) fn parse_line(line: &[u8]) -> Result<LogEntry, LogFault>
 ///
 /// Why the line is none of a bus log.
 pub fn parse_entry(line: &[u8]) -> Result<LogEntry, LogFault>
-    ensures { result_ok result ≡ entry_of line.now }
+    ensures says { result_ok result ≡ entry_of line.now }
+    ensures why { IfErr result (λ fault. entry_fault line.now (next_word line.now) ≡ reported fault) }
 {
     let mut fields = Fields::new(line);
     let Some(first) = fields.peek() else {
@@ -53,7 +55,8 @@ pub fn parse_entry(line: &[u8]) -> Result<LogEntry, LogFault>
 
 /// What a line says after its time.
 fn said(from: Fields<'_>, time: Option<u64>) -> Result<LogEntry, LogFault>
-    ensures { result_ok result ≡ said_by time from.entry.rest.now (next_word from.entry.rest.now) }
+    ensures says { result_ok result ≡ said_by time from.entry.rest.now (next_word from.entry.rest.now) }
+    ensures why { IfErr result (λ fault. said_fault from.entry.rest.now (next_word from.entry.rest.now) ≡ reported fault) }
 {
     match from.peek() {
         Some(b"lp") => access(from, time),
@@ -64,7 +67,8 @@ fn said(from: Fields<'_>, time: Option<u64>) -> Result<LogEntry, LogFault>
 
 /// The line of a datum.
 fn datum(from: Fields<'_>, time: Option<u64>) -> Result<LogEntry, LogFault>
-    ensures { result_ok result ≡ datum_in time from.entry.rest.now }
+    ensures says { result_ok result ≡ datum_in time from.entry.rest.now }
+    ensures why { IfErr result (λ fault. line_fault datum_words from.entry.rest.now ≡ reported fault) }
 {
     let mut fields = from;
     let Names { index, am, address } = names(&mut fields)?;
@@ -90,7 +94,9 @@ fn datum(from: Fields<'_>, time: Option<u64>) -> Result<LogEntry, LogFault>
 
 /// The number, the code and the address of a datum.
 fn names(fields: &mut Fields<'_>) -> Result<Names, LogFault>
-    ensures { option_map (λ it. (it, fields.new.rest.now)) (result_ok result) ≡ names_in fields.old.rest.now }
+    ensures says { option_map (λ it. (it, fields.new.rest.now)) (result_ok result) ≡ names_in fields.old.rest.now }
+    ensures rest { (end : List ℕ → Fault) → IfOk result (λ _. words_fault name_words end fields.old.rest.now ≡ end fields.new.rest.now) }
+    ensures why { (end : List ℕ → Fault) → IfErr result (λ fault. words_fault name_words end fields.old.rest.now ≡ reported fault) }
 {
     let index = fields.count("n=")?;
     let am = modifier(fields)?;
@@ -100,7 +106,9 @@ fn names(fields: &mut Fields<'_>) -> Result<Names, LogFault>
 
 /// The levels of lines.
 fn levels(fields: &mut Fields<'_>) -> Result<Levels, LogFault>
-    ensures { option_map (λ it. (it, fields.new.rest.now)) (result_ok result) ≡ levels_in fields.old.rest.now }
+    ensures says { option_map (λ it. (it, fields.new.rest.now)) (result_ok result) ≡ levels_in fields.old.rest.now }
+    ensures rest { (end : List ℕ → Fault) → IfOk result (λ _. words_fault level_words end fields.old.rest.now ≡ end fields.new.rest.now) }
+    ensures why { (end : List ℕ → Fault) → IfErr result (λ fault. words_fault level_words end fields.old.rest.now ≡ reported fault) }
 {
     let ds1 = fields.level("ds1=")?;
     let ds0 = fields.level("ds0=")?;
@@ -118,7 +126,8 @@ fn levels(fields: &mut Fields<'_>) -> Result<Levels, LogFault>
 
 /// The data, the answer and the slot, at the end of the line.
 fn answer(fields: &mut Fields<'_>) -> Result<Answer, LogFault>
-    ensures { result_ok result ≡ answer_in fields.old.rest.now }
+    ensures says { result_ok result ≡ answer_in fields.old.rest.now }
+    ensures why { IfErr result (λ fault. line_fault answer_words fields.old.rest.now ≡ reported fault) }
 {
     let (lines, idle, is_wide) = fields.data("data=")?;
     let is_acknowledged = acknowledged(fields)?;
@@ -134,7 +143,8 @@ fn answer(fields: &mut Fields<'_>) -> Result<Answer, LogFault>
 
 /// The address modifier, at most 3f.
 fn modifier(fields: &mut Fields<'_>) -> Result<u8, LogFault>
-    ensures { option_map (λ it. (it, fields.new.rest.now)) (result_ok result) ≡ modifier_in fields.old.rest.now }
+    ensures says { option_map (λ it. (it, fields.new.rest.now)) (result_ok result) ≡ modifier_in fields.old.rest.now }
+    ensures why { IfErr result (λ fault. reported fault ≡ word_fault (codes "am=") fields.old.rest.now) }
 {
     let code = fields.hex("am=", 2)?;
     if 64 <= code {
@@ -145,7 +155,8 @@ fn modifier(fields: &mut Fields<'_>) -> Result<u8, LogFault>
 
 /// Whether the answer is DTACK*.
 fn acknowledged(fields: &mut Fields<'_>) -> Result<bool, LogFault>
-    ensures { option_map (λ it. (it, fields.new.rest.now)) (result_ok result) ≡ option_and_then (reads answer_word) (next_word fields.old.rest.now) }
+    ensures says { option_map (λ it. (it, fields.new.rest.now)) (result_ok result) ≡ option_and_then (reads answer_word) (next_word fields.old.rest.now) }
+    ensures why { IfErr result (λ fault. reported fault ≡ word_fault (codes "dtack") fields.old.rest.now) }
 {
     match fields.word() {
         Some(b"dtack") => Ok(true),
@@ -157,7 +168,8 @@ fn acknowledged(fields: &mut Fields<'_>) -> Result<bool, LogFault>
 
 /// The slot that drives BBSY*, if the line has it, at the end of the line.
 fn holder(fields: &mut Fields<'_>) -> Result<Option<u8>, LogFault>
-    ensures { result_ok result ≡ holder_by fields.old.rest.now (next_word fields.old.rest.now) }
+    ensures says { result_ok result ≡ holder_by fields.old.rest.now (next_word fields.old.rest.now) }
+    ensures why { IfErr result (λ fault. line_fault slot_words fields.old.rest.now ≡ reported fault) }
 {
     if fields.peek().is_none() {
         return Ok(None);
@@ -169,7 +181,8 @@ fn holder(fields: &mut Fields<'_>) -> Result<Option<u8>, LogFault>
 
 /// A slot, 1 to 21.
 fn slot(fields: &mut Fields<'_>) -> Result<u8, LogFault>
-    ensures { option_map (λ it. (it, fields.new.rest.now)) (result_ok result) ≡ slot_in fields.old.rest.now }
+    ensures says { option_map (λ it. (it, fields.new.rest.now)) (result_ok result) ≡ slot_in fields.old.rest.now }
+    ensures why { IfErr result (λ fault. reported fault ≡ word_fault (codes "slot=") fields.old.rest.now) }
 {
     let slot = fields.count("slot=")?;
     if slot < 1 || LAST_SLOT < slot {
@@ -180,7 +193,8 @@ fn slot(fields: &mut Fields<'_>) -> Result<u8, LogFault>
 
 /// The line has no further word.
 fn ended(fields: &mut Fields<'_>) -> Result<(), LogFault>
-    ensures { IsOk result ↔ (next_word fields.old.rest.now ≡ None) }
+    ensures says { IsOk result ↔ (next_word fields.old.rest.now ≡ None) }
+    ensures why { IfErr result (λ fault. reported fault ≡ MoreWords) }
 {
     match fields.word() {
         None => Ok(()),
@@ -190,7 +204,9 @@ fn ended(fields: &mut Fields<'_>) -> Result<(), LogFault>
 
 /// The line of an access by a local port.
 fn access(from: Fields<'_>, time: Option<u64>) -> Result<LogEntry, LogFault>
-    ensures { result_ok result ≡ said_access time (next_word from.entry.rest.now) }
+    ensures says { result_ok result ≡ said_access time (next_word from.entry.rest.now) }
+    ensures why { IfSome (next_word from.entry.rest.now) (λ word. IfErr result (λ fault.
+        line_fault (access_name_words ++ byte_words) word.1 ≡ reported fault)) }
 {
     let mut fields = from;
     if fields.word().is_none() {
@@ -210,7 +226,9 @@ fn access(from: Fields<'_>, time: Option<u64>) -> Result<LogEntry, LogFault>
 
 /// The slot, the direction and the offset of an access.
 fn access_names(fields: &mut Fields<'_>) -> Result<(u8, bool, u32), LogFault>
-    ensures { option_map (λ it. (it, fields.new.rest.now)) (result_ok result) ≡ access_names_in fields.old.rest.now }
+    ensures says { option_map (λ it. (it, fields.new.rest.now)) (result_ok result) ≡ access_names_in fields.old.rest.now }
+    ensures rest { (end : List ℕ → Fault) → IfOk result (λ _. words_fault access_name_words end fields.old.rest.now ≡ end fields.new.rest.now) }
+    ensures why { (end : List ℕ → Fault) → IfErr result (λ fault. words_fault access_name_words end fields.old.rest.now ≡ reported fault) }
 {
     let slot = slot(fields)?;
     let is_write = direction(fields)?;
@@ -220,7 +238,8 @@ fn access_names(fields: &mut Fields<'_>) -> Result<(u8, bool, u32), LogFault>
 
 /// The bytes of an access and their number, at the end of the line.
 fn access_bytes(fields: &mut Fields<'_>) -> Result<(u8, u32), LogFault>
-    ensures { result_ok result ≡ access_bytes_in fields.old.rest.now }
+    ensures says { result_ok result ≡ access_bytes_in fields.old.rest.now }
+    ensures why { IfErr result (λ fault. line_fault byte_words fields.old.rest.now ≡ reported fault) }
 {
     let bytes = bytes(fields)?;
     ended(fields)?;
@@ -229,7 +248,8 @@ fn access_bytes(fields: &mut Fields<'_>) -> Result<(u8, u32), LogFault>
 
 /// Whether an access is a write.
 fn direction(fields: &mut Fields<'_>) -> Result<bool, LogFault>
-    ensures { option_map (λ it. (it, fields.new.rest.now)) (result_ok result) ≡ option_and_then (reads direction) (next_word fields.old.rest.now) }
+    ensures says { option_map (λ it. (it, fields.new.rest.now)) (result_ok result) ≡ option_and_then (reads direction) (next_word fields.old.rest.now) }
+    ensures why { IfErr result (λ fault. reported fault ≡ word_fault (codes "w") fields.old.rest.now) }
 {
     match fields.word() {
         Some(b"r") => Ok(false),
@@ -241,7 +261,8 @@ fn direction(fields: &mut Fields<'_>) -> Result<bool, LogFault>
 
 /// The offset of an access.
 fn offset(fields: &mut Fields<'_>) -> Result<u32, LogFault>
-    ensures { option_map (λ it. (it, fields.new.rest.now)) (result_ok result) ≡ option_and_then (reads (hex_number 8)) (next_word fields.old.rest.now) }
+    ensures says { option_map (λ it. (it, fields.new.rest.now)) (result_ok result) ≡ option_and_then (reads (hex_number 8)) (next_word fields.old.rest.now) }
+    ensures why { IfErr result (λ fault. reported fault ≡ word_fault (codes "OFFSET") fields.old.rest.now) }
 {
     let Some(word) = fields.word() else {
         return Err(LogFault::Missing("OFFSET"));
@@ -254,7 +275,8 @@ fn offset(fields: &mut Fields<'_>) -> Result<u32, LogFault>
 
 /// The bytes of an access, and their number.
 fn bytes(fields: &mut Fields<'_>) -> Result<(u8, u32), LogFault>
-    ensures { option_map (λ it. (it, fields.new.rest.now)) (result_ok result) ≡ option_and_then (reads bytes_of) (next_word fields.old.rest.now) }
+    ensures says { option_map (λ it. (it, fields.new.rest.now)) (result_ok result) ≡ option_and_then (reads bytes_of) (next_word fields.old.rest.now) }
+    ensures why { IfErr result (λ fault. reported fault ≡ word_fault (codes "BYTES") fields.old.rest.now) }
 {
     let Some(word) = fields.word() else {
         return Err(LogFault::Missing("BYTES"));

@@ -1,7 +1,7 @@
 //! The lines of a log, of which a text comes in pieces.
 ghost use Rattle.std.specs.Prelude.{◌≡◌, ◌≢◌, true, ◌+◌, ◌-◌, ◌^◌, List, ℕ, [], ◌∷◌, ◌++◌, Ok, min, OnOk, OnErr};
-ghost use Rattle.std.specs.Result.{result_ok};
 ghost use Rattle.vme_bus_log.specs.declared.entry.LogEntry.TheVariants.{Nothing};
+ghost use Rattle.vme_bus_log.specs.Faults.{returned};
 ghost use Rattle.vme_bus_log.specs.Texts.{log_says, EndsNoLine, SaysAs};
 
 use crate::entry::LogEntry;
@@ -74,7 +74,7 @@ impl LogReader {
     pub fn end_with(&mut self, part: &[u8]) -> Result<LogEntry, LogFault>
         requires { EndsNoLine part.now }
         ensures ends { (rest : List ℕ) →
-            log_says (self.old.line ++ (part.now ++ 10 ∷ rest)) ≡ result_ok result ∷ log_says rest }
+            log_says (self.old.line ++ (part.now ++ 10 ∷ rest)) ≡ returned result ∷ log_says rest }
         ensures next { OnOk result (self.new ≡
             record { line = []; number = min (self.old.number + 1) (2 ^ 64 - 1) }) }
         ensures number { OnErr result (self.new.number ≡ self.old.number) }
@@ -91,7 +91,7 @@ impl LogReader {
     fn ended_with(&mut self, part: &[u8]) -> Result<LogEntry, LogFault>
         requires { EndsNoLine part.now }
         ensures ends { (rest : List ℕ) →
-            log_says (self.old.line ++ (part.now ++ 10 ∷ rest)) ≡ result_ok result ∷ log_says rest }
+            log_says (self.old.line ++ (part.now ++ 10 ∷ rest)) ≡ returned result ∷ log_says rest }
         ensures next { OnOk result (self.new ≡ record { line = []; number = self.old.number }) }
         ensures number { OnErr result (self.new.number ≡ self.old.number) }
     {
@@ -135,15 +135,18 @@ impl LogReader {
     ///
     /// Why the line is none of a bus log.
     pub fn end(&mut self) -> Result<LogEntry, LogFault>
-        ensures says { log_says self.old.line ≡ result_ok result ∷ [] }
-        ensures more { (rest : List ℕ) → log_says (self.old.line ++ 10 ∷ rest) ≡ result_ok result ∷ log_says rest }
+        ensures says { log_says self.old.line ≡ returned result ∷ [] }
+        ensures more { (rest : List ℕ) → log_says (self.old.line ++ 10 ∷ rest) ≡ returned result ∷ log_says rest }
         ensures next { OnOk result (self.new ≡ record { line = []; number = self.old.number }) }
         ensures fault { OnErr result (self.new ≡ self.old) }
     {
         if self.is_long {
             return Err(LogFault::LineTooLong);
         }
-        let entry = parse_entry(self.line.as_slice())?;
+        let entry = match parse_entry(self.line.as_slice()) {
+            Ok(entry) => entry,
+            Err(fault) => return Err(fault),
+        };
         self.line.clear();
         self.is_comment = false;
         Ok(entry)

@@ -1,5 +1,5 @@
 -- Blanks: what lines of them say, and how long they are.
-use Rattle.std.proofs.Common.{◌≡◌, ℕ, ◌+◌, Bool, true, false, not, ◌==◌, ◌||◌, nat_le, nat_lt, List, [], ◌∷◌, ◌++◌, length, arith, eqb-true, subst, Option, Some, None, refl, ap, sym, ◌∙◌}
+use Rattle.std.proofs.Common.{◌≡◌, ℕ, ◌+◌, Bool, true, false, not, ◌==◌, ◌||◌, nat_le, nat_lt, List, [], ◌∷◌, ◌++◌, length, arith, eqb-true, subst, Option, Some, None, Result, Ok, Err, ok_or, refl, ap, sym, ◌∙◌}
 use Rattle.std.specs.Prelude.{if◌then◌else◌}
 use Rattle.std.specs.List.{prefix_len}
 use Rattle.std.proofs.lemmas.Bool.{false≢true}
@@ -8,15 +8,17 @@ use Rattle.std.proofs.lemmas.List.Elements.{All-head, All-tail}
 use Rattle.std.proofs.Math.ListN.{drop_of_length-le}
 use Rattle.vme_bus_log.specs.declared.entry.LogEntry.{LogEntry}
 use Rattle.vme_bus_log.specs.declared.entry.LogEntry.TheVariants as entries
-use Rattle.vme_bus_log.specs.Entries.{entry_of, line_by}
+use Rattle.vme_bus_log.specs.Entries.{line_by}
+use Rattle.vme_bus_log.specs.Faults.{Fault, TooLong, entry_fault, entry_says}
 use Rattle.vme_bus_log.specs.Texts.{EndsNoLine, line_says, without_comment}
 use Rattle.vme_bus_log.specs.Words.{from_word, is_blank, next_word, cut_word}
 use Rattle.vme_vcd_reader.specs.Words.{is_blank as is_word_end}
 use Rattle.vme_judge.specs.declared.run.Kind.{Kind}
 use Rattle.vme_judge.specs.declared.run.Kind.TheVariants as kinds
 use Rattle.vme_judge.specs.Blanks.{AreBlanks}
-use Rattle.vme_judge.specs.DumpTexts.{has_long_blanks}
+use Rattle.vme_judge.specs.DumpTexts.{long_blanks}
 use Rattle.vme_judge.specs.Runs.{form_after}
+use Rattle.vme_judge.specs.Seen.{one_more}
 use Rattle.vme_judge.specs.Verdicts.{is_space}
 use Rattle.vme_judge.proofs.Pieces.{form_on}
 
@@ -77,11 +79,12 @@ all_before bytes are =
     (omega (arith, all_pass (λ b. not (b == 35)) bytes (λ b is. ap not (no_comment b is)) are))
 
 -- a line of blanks says nothing, unless it is too long
-pub blanks_say : (bytes : List ℕ) → AreBlanks bytes → line_says bytes ≡ (if nat_le (length bytes) 255 then Some entries.Nothing else None)
+pub blanks_say : (bytes : List ℕ) → AreBlanks bytes → line_says bytes ≡ (if nat_le (length bytes) 255 then Ok entries.Nothing else Err TooLong)
 unfolding line_says
 blanks_say bytes are =
-    ap (λ line. let r : Option LogEntry = if nat_le (length line) 255 then entry_of line else None in r) (all_before bytes are)
-    ∙ ap (λ said. let r : Option LogEntry = if nat_le (length bytes) 255 then said else None in r) (ap (line_by bytes) (no_word bytes are))
+    ap (λ line. let r : Result LogEntry Fault = if nat_le (length line) 255 then entry_says line else Err TooLong in r) (all_before bytes are)
+    ∙ ap (λ said. let r : Result LogEntry Fault = if nat_le (length bytes) 255 then said else Err TooLong in r)
+    (ap (λ word. ok_or (line_by bytes word) (entry_fault bytes word)) (no_word bytes are))
 
 -- blanks before further blanks
 pub blanks_on : (bytes more : List ℕ) → AreBlanks bytes → form_after kinds.Unknown (bytes ++ more) ≡ form_after kinds.Unknown more
@@ -96,20 +99,22 @@ blanks_parts (b ∷ bytes) more are =
     (ap (λ test. let r : Kind = if test then form_after kinds.Unknown bytes else (if b == 36 then kinds.Dump else kinds.Log) in r) first.0 ∙ rest.0, rest.1)
 
 -- a blank within a line
-long_within : (blanks b : ℕ) (text : List ℕ) → is_space b ≡ true → (b == 10) ≡ false → has_long_blanks blanks (b ∷ text) ≡ has_long_blanks (blanks + 1) text
-long_within blanks b text is within = rw (is, within) refl
+long_within : (blanks line b : ℕ) (text : List ℕ) → is_space b ≡ true → (b == 10) ≡ false
+    → long_blanks blanks line (b ∷ text) ≡ long_blanks (blanks + 1) line text
+long_within blanks line b text is within = rw (is, within) refl
 
 -- blanks within a line, before more of it
-pub long_more : (blanks : ℕ) (part rest : List ℕ) → AreBlanks part → EndsNoLine part
-    → has_long_blanks blanks (part ++ rest) ≡ has_long_blanks (blanks + length part) rest
-long_more blanks [] rest are within = ap (λ n. has_long_blanks n rest) (omega arith)
-long_more blanks (b ∷ part) rest are within =
+pub long_more : (blanks line : ℕ) (part rest : List ℕ) → AreBlanks part → EndsNoLine part
+    → long_blanks blanks line (part ++ rest) ≡ long_blanks (blanks + length part) line rest
+long_more blanks line [] rest are within = ap (λ n. long_blanks n line rest) (omega arith)
+long_more blanks line (b ∷ part) rest are within =
     let first = blank_first b part are in
-    long_within blanks b (part ++ rest) first.0 (All-head (λ b. (b == 10) ≡ false) b part within)
-    ∙ long_more (blanks + 1) part rest first.1 (All-tail (λ b. (b == 10) ≡ false) b part within)
-    ∙ ap (λ n. has_long_blanks n rest) (omega arith)
+    long_within blanks line b (part ++ rest) first.0 (All-head (λ b. (b == 10) ≡ false) b part within)
+    ∙ long_more (blanks + 1) line part rest first.1 (All-tail (λ b. (b == 10) ≡ false) b part within)
+    ∙ ap (λ n. long_blanks n line rest) (omega arith)
 
 -- blanks that end a line
-pub long_ended : (blanks : ℕ) (part rest : List ℕ) → AreBlanks part → EndsNoLine part
-    → has_long_blanks blanks (part ++ 10 ∷ rest) ≡ (nat_lt 255 (blanks + length part) || has_long_blanks 0 rest)
-long_ended blanks part rest are within = long_more blanks part (10 ∷ rest) are within
+pub long_ended : (blanks line : ℕ) (part rest : List ℕ) → AreBlanks part → EndsNoLine part
+    → long_blanks blanks line (part ++ 10 ∷ rest)
+    ≡ (if nat_lt 255 (blanks + length part) then Some line else long_blanks 0 (one_more line) rest)
+long_ended blanks line part rest are within = long_more blanks line part (10 ∷ rest) are within

@@ -1,5 +1,5 @@
 -- A run that takes lines of blanks before a trace.
-use Rattle.std.proofs.Common.{◌≡◌, ℕ, ◌+◌, Bool, true, false, ◌==◌, ◌||◌, nat_le, nat_lt, inl, inr, List, [], ◌∷◌, ◌++◌, append_assoc, map, length, length-append, arith, le-leb, subst, Option, Some, None, is_some, Result, Ok, Err, IfOk, refl, ap, sym, ◌∙◌}
+use Rattle.std.proofs.Common.{◌≡◌, ℕ, ◌+◌, Bool, true, false, ◌==◌, nat_le, nat_lt, inl, inr, List, [], ◌∷◌, ◌++◌, append_assoc, map, length, length-append, arith, le-leb, subst, Option, Some, is_some, Result, Ok, Err, IfOk, refl, ap, sym, ◌∙◌}
 use Rattle.std.specs.Prelude.{if◌then◌else◌}
 use Rattle.std.specs.declared.alloc.AllocError.{AllocError}
 use Rattle.std.proofs.lemmas.Bool.{false≢true, lt-leb}
@@ -8,16 +8,21 @@ use Rattle.std.proofs.lemmas.List.Elements.{All-append, All-nil}
 use Rattle.std.proofs.lemmas.List.Splits.{slice_split_at}
 use Rattle.vme_bus_log.specs.declared.entry.LogEntry.{LogEntry}
 use Rattle.vme_bus_log.specs.declared.entry.LogEntry.TheVariants as entries
+use Rattle.vme_bus_log.specs.Faults.{Fault, TooLong}
 use Rattle.vme_bus_log.specs.Texts.{EndsNoLine, Reading, SaysAs, line_says, log_says}
+use Rattle.vme_judge.specs.declared.rejection.Rejection.{Rejection}
 use Rattle.vme_judge.specs.declared.run.Run.{Run}
 use Rattle.vme_judge.specs.Blanks.{AreBlanks, IsBlankLine, TakesBlanks}
-use Rattle.vme_judge.specs.DumpTexts.{has_long_blanks}
+use Rattle.vme_judge.specs.DumpTexts.{long_blanks}
+use Rattle.vme_judge.specs.Logs.{Cause, NoLine}
+use Rattle.vme_judge.specs.Runs.{cause_of}
+use Rattle.vme_judge.specs.Seen.{one_more}
 use Rattle.vme_judge.proofs.BlankLines.{blank_first, blanks_on, blanks_parts, blanks_say, long_ended, long_more}
 
 -- what a reader says of a line that blanks alone fill
-said_blank : (begin part : List ℕ) (read : Reading) (said : Option LogEntry) → IsBlankLine begin read → AreBlanks part → EndsNoLine part
+said_blank : (begin part : List ℕ) (read : Reading) (said : Result LogEntry Fault) → IsBlankLine begin read → AreBlanks part → EndsNoLine part
     → ((rest : List ℕ) → log_says (read.line ++ (part ++ 10 ∷ rest)) ≡ said ∷ log_says rest)
-    → said ≡ (if nat_le (length begin + length part) 255 then Some entries.Nothing else None)
+    → said ≡ (if nat_le (length begin + length part) 255 then Ok entries.Nothing else Err TooLong)
 said_blank begin part read said is are within ends =
     let all : log_says ((begin ++ part) ++ 10 ∷ []) ≡ line_says (begin ++ part) ∷ log_says [] =
     ap (map line_says) (slice_split_at (λ b. b == 10) (begin ++ part) 10 [] (All-append (λ b. (b == 10) ≡ false) begin part is.within within) refl) in
@@ -25,7 +30,7 @@ said_blank begin part read said is are within ends =
     sym (ends []) ∙ sym (is.begin (part ++ 10 ∷ [])) ∙ ap log_says (sym (append_assoc begin part (10 ∷ []))) ∙ all in
     let first : said ≡ line_says (begin ++ part) = cc same in
     first ∙ blanks_say (begin ++ part) (blanks_on begin part is.blanks ∙ are)
-    ∙ ap (λ n. let r : Option LogEntry = if nat_le n 255 then Some entries.Nothing else None in r) (length-append begin part)
+    ∙ ap (λ n. let r : Result LogEntry Fault = if nat_le n 255 then Ok entries.Nothing else Err TooLong in r) (length-append begin part)
 
 -- a number is no more than 255, or more
 at_most : (n : ℕ) → nat_le n 255 ≡ true → nat_lt 255 n ≡ false
@@ -37,16 +42,17 @@ more_than n is = elim (leb_tells n 255) [ inl less ↦ absurd (false≢true (sym
 
 -- a line of blanks that is said to be nothing is short
 short_line : (n : ℕ) (test : Bool) (entry : LogEntry) → nat_le n 255 ≡ test
-    → Some entry ≡ (let r : Option LogEntry = if test then Some entries.Nothing else None in r)
+    → Ok entry ≡ (let r : Result LogEntry Fault = if test then Ok entries.Nothing else Err TooLong in r)
     → (entry ≡ entries.Nothing) × (nat_lt 255 n ≡ false)
 short_line n true entry is said = (cc said, at_most n is)
 short_line n false entry is said = absurd (cc said)
 
--- a line of blanks of which nothing is said is long
-long_line : (n : ℕ) (test : Bool) → nat_le n 255 ≡ test → None ≡ (let r : Option LogEntry = if test then Some entries.Nothing else None in r)
-    → nat_lt 255 n ≡ true
-long_line n true is said = absurd (cc said)
-long_line n false is said = more_than n is
+-- a line of blanks that is none of a log is long
+long_line : (n : ℕ) (test : Bool) (fault : Fault) → nat_le n 255 ≡ test
+    → Err fault ≡ (let r : Result LogEntry Fault = if test then Ok entries.Nothing else Err TooLong in r)
+    → (nat_lt 255 n ≡ true) × (fault ≡ TooLong)
+long_line n true fault is said = absurd (cc said)
+long_line n false fault is said = (more_than n is, cc said)
 
 -- a reader at the begin of a line
 pub fresh : (read : Reading) → read.line ≡ [] → IsBlankLine [] read
@@ -57,24 +63,30 @@ fresh read empty = record {
 }
 
 -- a line of blanks, with its end, before more
-line_end : (n : ℕ) (line rest : List ℕ) (long : Bool) → AreBlanks line → EndsNoLine line → nat_lt 255 (n + length line) ≡ long
-    → has_long_blanks n ((line ++ 10 ∷ []) ++ rest) ≡ (long || has_long_blanks 0 rest)
-line_end n line rest long are within is =
-    ap (has_long_blanks n) (append_assoc line (10 ∷ []) rest) ∙ long_ended n line rest are within
-    ∙ ap (λ test. test || has_long_blanks 0 rest) is
+line_end : (n number : ℕ) (line rest : List ℕ) (long : Bool) → AreBlanks line → EndsNoLine line → nat_lt 255 (n + length line) ≡ long
+    → long_blanks n number ((line ++ 10 ∷ []) ++ rest) ≡ (if long then Some number else long_blanks 0 (one_more number) rest)
+line_end n number line rest long are within is =
+    ap (long_blanks n number) (append_assoc line (10 ∷ []) rest) ∙ long_ended n number line rest are within
+    ∙ ap (λ test. let r : Option ℕ = if test then Some number else long_blanks 0 (one_more number) rest in r) is
+
+-- the line after one that is taken
+abbrev pub next_after : Reading → Reading
+next_after read = record { line = []; number = one_more read.number }
 
 -- a run that takes a line of blanks which says nothing
 skipped : (old new : Run) (read : Reading) (begin line : List ℕ) → AreBlanks line → EndsNoLine line
-    → nat_lt 255 (length begin + length line) ≡ false → read.line ≡ [] → new ≡ record old { log = read }
+    → nat_lt 255 (length begin + length line) ≡ false → read ≡ next_after old.log → new ≡ record old { log = read }
     → TakesBlanks begin old new (line ++ 10 ∷ []) true
-skipped old new read begin line are within short empty is = record {
+skipped old new read begin line are within short next is = record {
   judge = ap (λ (r : Run). r.judge) is;
   ports = ap (λ (r : Run). r.ports) is;
   reads = λ _. record {
     rejection = ap (λ (r : Run). r.rejection) is;
     after = [];
-    begin = fresh new.log (ap (λ (r : Run). r.log.line) is ∙ empty);
-    lines = λ rest. line_end (length begin) line rest false are within short;
+    begin = fresh new.log (ap (λ (r : Run). r.log.line) is ∙ ap (λ (r : Reading). r.line) next);
+    lines = λ rest.
+        line_end (length begin) old.log.number line rest false are within short
+        ∙ ap (λ number. long_blanks 0 number rest) (sym (ap (λ (r : Run). r.log.number) is ∙ ap (λ (r : Reading). r.number) next));
   };
   stops = λ off. absurd (false≢true (sym off));
 }
@@ -82,29 +94,38 @@ skipped old new read begin line are within short empty is = record {
 -- the same by what the reader says
 pub line_skipped : (old new : Run) (read : Reading) (begin line : List ℕ) (entry : LogEntry) (result : Result Bool AllocError)
     → IsBlankLine begin old.log → AreBlanks line → EndsNoLine line
-    → ((rest : List ℕ) → log_says (old.log.line ++ (line ++ 10 ∷ rest)) ≡ Some entry ∷ log_says rest) → read.line ≡ []
+    → ((rest : List ℕ) → log_says (old.log.line ++ (line ++ 10 ∷ rest)) ≡ Ok entry ∷ log_says rest) → read ≡ next_after old.log
     → (entry ≡ entries.Nothing → IfOk result (λ goes_on. (goes_on ≡ true) × (new ≡ record old { log = read })))
     → IfOk result (TakesBlanks begin old new (line ++ 10 ∷ []))
-line_skipped old new read begin line entry (Err fault) is are within ends empty nothing = tt
-line_skipped old new read begin line entry (Ok goes_on) is are within ends empty nothing =
+line_skipped old new read begin line entry (Err fault) is are within ends next nothing = tt
+line_skipped old new read begin line entry (Ok goes_on) is are within ends next nothing =
     let short = short_line (length begin + length line) (nat_le (length begin + length line) 255) entry refl
-    (said_blank begin line old.log (Some entry) is are within ends) in
+    (said_blank begin line old.log (Ok entry) is are within ends) in
     let took = nothing short.0 in
-    subst (TakesBlanks begin old new (line ++ 10 ∷ [])) (sym took.0) (skipped old new read begin line are within short.1 empty took.1)
+    subst (TakesBlanks begin old new (line ++ 10 ∷ [])) (sym took.0) (skipped old new read begin line are within short.1 next took.1)
 
 -- a run that rejects a line of blanks
-pub blanks_refused : (old new : Run) (begin line : List ℕ) → IsBlankLine begin old.log → AreBlanks line → EndsNoLine line
-    → ((rest : List ℕ) → log_says (old.log.line ++ (line ++ 10 ∷ rest)) ≡ None ∷ log_says rest) → is_some new.rejection ≡ true
+pub blanks_refused : (old new : Run) (begin line : List ℕ) (number : ℕ) (fault : Fault) → IsBlankLine begin old.log → AreBlanks line → EndsNoLine line
+    → ((rest : List ℕ) → log_says (old.log.line ++ (line ++ 10 ∷ rest)) ≡ Err fault ∷ log_says rest) → is_some new.rejection ≡ true
+    → cause_of new.rejection ≡ (if is_some old.rejection then cause_of old.rejection else NoLine number fault) → number ≡ old.log.number
     → new.judge ≡ old.judge → new.ports ≡ old.ports → TakesBlanks begin old new (line ++ 10 ∷ []) false
-blanks_refused old new begin line is are within ends rejected judge ports = record {
+blanks_refused old new begin line number fault is are within ends rejected cause same judge ports = record {
   judge = judge;
   ports = ports;
   reads = λ on. absurd (false≢true on);
   stops = λ _. record {
     rejected = rejected;
+    number = number;
+    cause =
+        cause
+        ∙ ap (λ fault. let c : Cause = if is_some old.rejection then cause_of old.rejection else NoLine number fault in c)
+        (long_line (length begin + length line) (nat_le (length begin + length line) 255) fault refl
+        (said_blank begin line old.log (Err fault) is are within ends)).1;
     lines = λ rest.
-        line_end (length begin) line rest true are within
-        (long_line (length begin + length line) (nat_le (length begin + length line) 255) refl (said_blank begin line old.log None is are within ends));
+        line_end (length begin) old.log.number line rest true are within
+        (long_line (length begin + length line) (nat_le (length begin + length line) 255) fault refl
+        (said_blank begin line old.log (Err fault) is are within ends)).0
+        ∙ ap Some (sym same);
   };
 }
 
@@ -116,7 +137,8 @@ pub record BlanksTo (line : List ℕ) (old new : Run) (bytes left : List ℕ) : 
   pub blanks : AreBlanks left
   pub after : List ℕ
   pub begin : IsBlankLine after new.log
-  pub lines : (rest : List ℕ) → has_long_blanks (length line) (bytes ++ rest) ≡ has_long_blanks (length after) (left ++ rest)
+  pub lines : (rest : List ℕ)
+      → long_blanks (length line) old.log.number (bytes ++ rest) ≡ long_blanks (length after) new.log.number (left ++ rest)
 
 -- a run before the first of some blanks
 pub blanks_from : (line : List ℕ) (run : Run) (bytes : List ℕ) → AreBlanks bytes → IsBlankLine line run.log → BlanksTo line run run bytes bytes
@@ -154,7 +176,7 @@ blanks_over line old mid new bytes left part after goes_on to parts takes on =
       after = reads.after;
       begin = reads.begin;
       lines = λ rest.
-          to.lines rest ∙ ap (has_long_blanks (length to.after)) (left_then left part after rest parts) ∙ reads.lines (after ++ rest);
+          to.lines rest ∙ ap (long_blanks (length to.after) mid.log.number) (left_then left part after rest parts) ∙ reads.lines (after ++ rest);
     }
 
 -- a run that stops at a line
@@ -169,15 +191,21 @@ blanks_stop line old mid new bytes left part after goes_on to parts takes off =
       reads = λ on. absurd (false≢true on);
       stops = λ _. record {
         rejected = stops.rejected;
+        number = stops.number;
+        cause =
+            stops.cause
+            ∙ ap (λ (r : Option Rejection). let c : Cause = if is_some r then cause_of r else NoLine stops.number TooLong in c) to.rejection;
         lines = λ rest.
-            to.lines rest ∙ ap (has_long_blanks (length to.after)) (left_then left part after rest parts) ∙ stops.lines (after ++ rest);
+            to.lines rest ∙ ap (long_blanks (length to.after) mid.log.number) (left_then left part after rest parts)
+            ∙ stops.lines (after ++ rest);
       };
     }
 
 -- a run that keeps the begin of a line of blanks
 pub blanks_kept : (line : List ℕ) (old mid new : Run) (read : Reading) (bytes left : List ℕ) (to : BlanksTo line old mid bytes left)
-    → EndsNoLine left → new ≡ record mid { log = read } → SaysAs (mid.log.line ++ left) read.line → TakesBlanks line old new bytes true
-blanks_kept line old mid new read bytes left to within is says = record {
+    → EndsNoLine left → new ≡ record mid { log = read } → SaysAs (mid.log.line ++ left) read.line → read.number ≡ mid.log.number
+    → TakesBlanks line old new bytes true
+blanks_kept line old mid new read bytes left to within is says same = record {
   judge = ap (λ (r : Run). r.judge) is ∙ to.judge;
   ports = ap (λ (r : Run). r.ports) is ∙ to.ports;
   reads = λ _. record {
@@ -191,8 +219,9 @@ blanks_kept line old mid new read bytes left to within is says = record {
           ∙ says rest ∙ ap (λ (r : Run). log_says (r.log.line ++ rest)) (sym is);
     };
     lines = λ rest.
-        to.lines rest ∙ long_more (length to.after) left rest to.blanks within
-        ∙ ap (λ n. has_long_blanks n rest) (sym (length-append to.after left));
+        to.lines rest ∙ long_more (length to.after) mid.log.number left rest to.blanks within
+        ∙ ap (λ n. long_blanks n mid.log.number rest) (sym (length-append to.after left))
+        ∙ ap (λ number. long_blanks (length (to.after ++ left)) number rest) (sym (ap (λ (r : Run). r.log.number) is ∙ same));
   };
   stops = λ off. absurd (false≢true (sym off));
 }

@@ -1,9 +1,10 @@
 -- A run that takes the blanks before a dump.
-use Rattle.std.proofs.Common.{◌≡◌, ℕ, ◌+◌, ◌<◌, Bool, true, false, ◌==◌, zero, suc, inl, List, [], ◌∷◌, ◌++◌, append_assoc, map, drop, take, length, get_or, slice_get, arith, eqb-true, subst, Option, Some, is_some, Result, Ok, Err, IfOk, refl, ap, sym, ◌∙◌}
+use Rattle.std.proofs.Common.{◌≡◌, ℕ, ◌+◌, ◌<◌, Bool, true, false, ◌==◌, zero, suc, List, [], ◌∷◌, ◌++◌, append_assoc, map, drop, take, length, get_or, slice_get, arith, eqb-true, subst, Option, Some, is_some, Result, Ok, Err, IfOk, refl, ap, sym, ◌∙◌}
 use Rattle.std.specs.Prelude.{if◌then◌else◌}
 use Rattle.std.specs.declared.alloc.AllocError.{AllocError}
 use Rattle.std.proofs.lemmas.Bool.{false≢true}
 use Rattle.std.proofs.lemmas.List.{drop_more, take-append-drop, take_more}
+use Rattle.vme_bus_log.specs.Faults.{TooLong}
 use Rattle.vme_line_map.specs.Variables.{Map}
 use Rattle.vme_vcd_reader.specs.declared.reader.Step.{Step}
 use Rattle.vme_vcd_reader.specs.declared.reader.VcdReader.{VcdReader}
@@ -20,13 +21,15 @@ use Rattle.vme_judge.specs.declared.run.Kind.TheVariants as kinds
 use Rattle.vme_judge.specs.declared.run.Run.{Run}
 use Rattle.vme_judge.specs.Blanks.{AreBlanks, BeginsDump, IsBlankSoFar, ReadsBlanks, SkipsBlanks, TakesBlanks, TakesFirst, TakesFurther, blanks_whole, line_past}
 use Rattle.vme_judge.specs.DumpRuns.{InHeader, IsDumpJudgedAs, TakesDump, dump_at, dump_so_far, text_whole}
-use Rattle.vme_judge.specs.Dumps.{DumpSoFar, Broken}
-use Rattle.vme_judge.specs.DumpTexts.{has_long_blanks, header_judged}
-use Rattle.vme_judge.specs.Runs.{form_after, IsGoing, IsOnceRun}
+use Rattle.vme_judge.specs.Dumps.{DumpSoFar}
+use Rattle.vme_judge.specs.DumpTexts.{after_blanks, header_judged, long_blanks}
+use Rattle.vme_judge.specs.Logs.{NoLine}
+use Rattle.vme_judge.specs.Runs.{cause_of, form_after, IsGoing, IsOnceRun}
 use Rattle.vme_judge.specs.Standing.{standing, IsOnce, IsStanding}
 use Rattle.vme_judge.specs.Verdicts.{is_space}
 use Rattle.vme_judge.proofs.BlankLines.{blank_first, blanks_on, dump_blank}
-use Rattle.vme_judge.proofs.DumpRuns.{rejected_is, rejects_once}
+use Rattle.vme_judge.proofs.DumpHeaders.{goes_as}
+use Rattle.vme_judge.proofs.DumpRuns.{rejects_once, text_broken}
 
 -- each of blanks is one
 pub blank_at : (bytes : List ℕ) (i d : ℕ) → AreBlanks bytes → i < length bytes → is_space (get_or bytes i d) ≡ true
@@ -51,29 +54,32 @@ line_more bytes i d line next last less is was =
 
 -- blanks before the first word of a header
 header_blanks : (o : Options) (map : Map) (d : DumpSoFar) (ds : List Declaration) (line : ℕ) (blanks rest : List ℕ) → AreBlanks blanks
-    → header_judged o map d ds (Goes beginning) line (blanks ++ rest) ≡ header_judged o map d ds (Goes beginning) (line_past blanks line) rest
+    → header_judged o map d ds (Goes beginning) line line (blanks ++ rest)
+    ≡ header_judged o map d ds (Goes beginning) (line_past blanks line) (line_past blanks line) rest
 header_blanks o map d ds line [] rest are = refl
 header_blanks o map d ds line (b ∷ blanks) rest are =
     let first = blank_first b blanks are in
-    ap (λ out. header_judged o map d ds out (line_after b line) (blanks ++ rest)) (begins_on b first.0)
+    ap (λ out. header_judged o map d ds out line (line_after b line) (blanks ++ rest)) (begins_on b first.0)
+    ∙ goes_as o map d ds beginning line (line_after b line) (line_after b line) (blanks ++ rest)
     ∙ header_blanks o map d ds (line_after b line) blanks rest first.1
 
 -- a run that has taken blanks has judged nothing
 pub same_dump : (old new : Run) → new.judge ≡ old.judge → new.ports ≡ old.ports → new.rejection ≡ old.rejection → dump_so_far new ≡ dump_so_far old
 same_dump old new judge ports rejection =
-    ap (λ (r : Option Rejection). dump_at (is_some r) (standing new.judge) new.ports.last) rejection
-    ∙ ap (λ (j : Judge). dump_at (is_some old.rejection) (standing j) new.ports.last) judge
-    ∙ ap (λ (p : Ports). dump_at (is_some old.rejection) (standing old.judge) p.last) ports
+    ap (λ (r : Option Rejection). dump_at (is_some r) (cause_of r) (standing new.judge) new.ports.last) rejection
+    ∙ ap (λ (j : Judge). dump_at (is_some old.rejection) (cause_of old.rejection) (standing j) new.ports.last) judge
+    ∙ ap (λ (p : Ports). dump_at (is_some old.rejection) (cause_of old.rejection) (standing old.judge) p.last) ports
 
 -- the whole header does not depend on them
 text_same : (map : Map) (old new : Run) (line : ℕ) (rest : List ℕ) → new.judge ≡ old.judge → new.ports ≡ old.ports
     → new.rejection ≡ old.rejection → new.vcd.line ≡ line
-    → header_judged old.judge.options.now map (dump_so_far old) [] (Goes beginning) line rest ≡ text_whole map new (InHeader beginning []) rest
+    → header_judged old.judge.options.now map (dump_so_far old) [] (Goes beginning) line line rest ≡ text_whole map new (InHeader beginning []) rest
 text_same map old new line rest judge ports rejection counts =
     sym (
-    ap (λ (j : Judge). header_judged j.options.now map (dump_so_far new) [] (Goes beginning) new.vcd.line rest) judge
-    ∙ ap (λ d. header_judged old.judge.options.now map d [] (Goes beginning) new.vcd.line rest) (same_dump old new judge ports rejection)
-    ∙ ap (λ line. header_judged old.judge.options.now map (dump_so_far old) [] (Goes beginning) line rest) counts
+    ap (λ (j : Judge). header_judged j.options.now map (dump_so_far new) [] (Goes beginning) new.vcd.line new.vcd.line rest) judge
+    ∙ ap (λ d. header_judged old.judge.options.now map d [] (Goes beginning) new.vcd.line new.vcd.line rest)
+    (same_dump old new judge ports rejection)
+    ∙ ap (λ line. header_judged old.judge.options.now map (dump_so_far old) [] (Goes beginning) line line rest) counts
     )
 
 -- the whole dump after blanks
@@ -81,8 +87,10 @@ pub whole_on : (map : Map) (line : List ℕ) (old new : Run) (bytes rest : List 
     → new.judge ≡ old.judge → new.ports ≡ old.ports → new.vcd.line ≡ line_past bytes old.vcd.line
     → blanks_whole map line old (bytes ++ rest) ≡ blanks_whole map reads.after new rest
 whole_on map line old new bytes rest reads are judge ports counts =
-    ap (λ test. let r : DumpSoFar = if test then Broken else text_whole map old (InHeader beginning []) (bytes ++ rest) in r) (reads.lines rest)
-    ∙ ap (λ d. let r : DumpSoFar = if has_long_blanks (length reads.after) rest then Broken else d in r)
+    ap (λ long. after_blanks long (dump_so_far old) (text_whole map old (InHeader beginning []) (bytes ++ rest))) (reads.lines rest)
+    ∙ ap (λ d. after_blanks (long_blanks (length reads.after) new.log.number rest) d (text_whole map old (InHeader beginning []) (bytes ++ rest)))
+    (sym (same_dump old new judge ports reads.rejection))
+    ∙ ap (after_blanks (long_blanks (length reads.after) new.log.number rest) (dump_so_far new))
     (header_blanks old.judge.options.now map (dump_so_far old) [] old.vcd.line bytes rest are
     ∙ text_same map old new (line_past bytes old.vcd.line) rest judge ports reads.rejection counts)
 
@@ -92,8 +100,8 @@ pub whole_first : (map : Map) (line : List ℕ) (run : Run) (text rest : List �
 whole_first map line run [] rest first = absurd (cc first)
 whole_first map line run (b ∷ text) rest first =
     let is : b ≡ 36 = cc first in
-    ap (λ b. let r : DumpSoFar = if has_long_blanks (length line) (b ∷ (text ++ rest)) then Broken
-    else text_whole map run (InHeader beginning []) (b ∷ (text ++ rest)) in r) is
+    ap (λ b. after_blanks (long_blanks (length line) run.log.number (b ∷ (text ++ rest))) (dump_so_far run)
+    (text_whole map run (InHeader beginning []) (b ∷ (text ++ rest)))) is
     ∙ ap (λ b. text_whole map run (InHeader beginning []) (b ∷ (text ++ rest))) (sym is)
 
 module _ (map : Map) (line : List ℕ) (old mid new : Run) (bytes blanks text : List ℕ) where
@@ -148,15 +156,13 @@ dump_barred map line old new bytes blanks text on off takes parts =
     let stops = takes.stops off in
     record {
       reads = λ on. absurd (false≢true on);
-      stops = λ _ rest. inl (
-          rejected_is new stops.rejected
-          ∙ sym (
-          ap (λ bytes. blanks_whole map line old (bytes ++ rest)) parts
+      stops = λ _ rest.
+          text_broken old new (blanks_whole map line old (bytes ++ rest)) (NoLine stops.number TooLong)
+          (ap (λ bytes. blanks_whole map line old (bytes ++ rest)) parts
           ∙ ap (blanks_whole map line old) (append_assoc blanks text rest)
-          ∙ ap (λ test. let r : DumpSoFar = if test then Broken else text_whole map old (InHeader beginning []) (blanks ++ (text ++ rest)) in r)
-          (stops.lines (text ++ rest))
-          )
-          );
+          ∙ ap (λ long. after_blanks long (dump_so_far old) (text_whole map old (InHeader beginning []) (blanks ++ (text ++ rest))))
+          (stops.lines (text ++ rest)))
+          (stops.rejected, stops.cause) takes.judge;
       stays = λ found fell. ap (λ j. standing j) takes.judge ∙ fell;
       once = λ once going. (rejects_once old new takes.judge once going, λ on. absurd (false≢true on));
     }
@@ -184,7 +190,9 @@ module _ (map : Map) (line : List ℕ) (old new : Run) (kind : Kind) (bytes : Li
       reads = λ on.
           let reads = skips.takes.reads on in
           record { rejection = reads.rejection; after = reads.after; begin = reads.begin; lines = reads.lines };
-      stops = skips.takes.stops;
+      stops = λ off.
+          let stops = skips.takes.stops off in
+          record { rejected = stops.rejected; number = stops.number; cause = stops.cause; lines = stops.lines };
     };
   }
 
@@ -221,7 +229,9 @@ blanks_skipped map line old new v bytes (Ok goes_on) reader counts same takes = 
     reads = λ on.
         let reads = takes.reads on in
         record { rejection = reads.rejection; after = reads.after; begin = reads.begin; lines = reads.lines };
-    stops = takes.stops;
+    stops = λ off.
+        let stops = takes.stops off in
+        record { rejected = stops.rejected; number = stops.number; cause = stops.cause; lines = stops.lines };
   };
 }
 

@@ -1,5 +1,5 @@
 -- Bytes of a dump, judged up to those that are left.
-use Rattle.std.proofs.Common.{◌≡◌, ℕ, ◌+◌, ◌<◌, ◌≤◌, Bool, true, false, List, [], ◌∷◌, ◌++◌, append_assoc, append-nil, drop, slice_index, length, length-append, arith, subst, Option, Some, None, is_some, Result, Ok, Err, IfOk, refl, ap, sym, ◌∙◌}
+use Rattle.std.proofs.Common.{ok_or, if◌then◌else◌, ◌≡◌, ℕ, ◌+◌, ◌<◌, ◌≤◌, Bool, true, false, List, [], ◌∷◌, ◌++◌, append_assoc, append-nil, drop, slice_index, length, length-append, arith, subst, Option, Some, None, is_some, Result, Ok, Err, IfOk, refl, ap, sym, ◌∙◌}
 use Rattle.std.specs.Option.{option_and_then, option_map}
 use Rattle.std.specs.declared.alloc.AllocError.{AllocError}
 use Rattle.std.proofs.lemmas.Bool.{false≢true}
@@ -7,13 +7,18 @@ use Rattle.vme_line_map.specs.Variables.{Map}
 use Rattle.vme_vcd_reader.specs.declared.reader.Step.{Step}
 use Rattle.vme_vcd_reader.specs.declared.reader.VcdReader.{VcdReader}
 use Rattle.vme_vcd_reader.specs.declared.table.Row.{Row}
-use Rattle.vme_vcd_reader.specs.Bodies.{Reading, Shown, before, byte_taken, samples_by, samples_of}
+use Rattle.vme_vcd_reader.specs.Bodies.{Reading, Shown, byte_taken}
+use Rattle.vme_vcd_reader.specs.declared.fault.VcdFault.{VcdFault}
+use Rattle.vme_vcd_reader.specs.declared.fault.VcdFault.TheVariants.{TimeFalls}
+use Rattle.vme_vcd_reader.specs.Faults.{Flaw, byte_flaw, time_flaw}
 use Rattle.vme_vcd_reader.specs.Lines.{bytes_taken, list_of, shown_first}
 use Rattle.vme_vcd_reader.specs.Readers.{IsBrokenText, IsReading, ReportsSample, TakesLine, rows_of}
+use Rattle.vme_vcd_reader.specs.Samples.{before, samples_by, samples_of}
 use Rattle.vme_judge.specs.declared.run.Run.{Run}
 use Rattle.vme_judge.specs.DumpRuns.{DumpStays, HasReached, InBody, InHeader, IsDumpJudgedAs, IsUnjudged, JudgesDump, Reached, ReadsOn, TakesDump, TakesNext, dump_so_far, text_whole}
 use Rattle.vme_judge.specs.Dumps.{DumpSoFar}
-use Rattle.vme_judge.specs.Runs.{IsGoing, IsOnceRun}
+use Rattle.vme_judge.specs.Logs.{NoDump}
+use Rattle.vme_judge.specs.Runs.{IsGoing, IsOnceRun, cause_of}
 use Rattle.vme_judge.specs.Standing.{standing}
 use Rattle.vme_judge.proofs.DumpRuns.{all_before, bytes_judged, bytes_rejected, first_before, first_reading, one_before, samples_first}
 
@@ -74,25 +79,25 @@ samples_then : (rows : List Row) (bs rest : List ℕ) (after : Reading) (list : 
     → ((next : Reading) (list : List Shown) → bytes_taken rows taken.0 bs ≡ Some (next, list)
     → samples_of rows taken.0 (bs ++ rest) ≡ all_before list (samples_of rows next rest))
     → option_map (shown_first taken.1) o ≡ Some (after, list)
-    → samples_by rows (Some taken) (bs ++ rest) ≡ all_before list (samples_of rows after rest)
-samples_then rows bs rest after list taken None says then is = absurd (cc is)
-samples_then rows bs rest after list taken (Some more) says then is =
+    → samples_by rows (Ok taken) (bs ++ rest) ≡ all_before list (samples_of rows after rest)
+samples_then rows bs rest after list taken None says others is = absurd (cc is)
+samples_then rows bs rest after list taken (Some more) says others is =
     let same : shown_first taken.1 more ≡ (after, list) = cc is in
     samples_first rows taken (bs ++ rest)
-    ∙ ap (before taken.1) (then more.0 more.1 says)
+    ∙ ap (before taken.1) (others more.0 more.1 says)
     ∙ first_before taken.1 more (samples_of rows more.0 rest)
     ∙ ap (λ r. all_before ((shown_first taken.1 more).1) (samples_of rows r rest)) (sym (first_reading taken.1 more))
     ∙ ap (λ (q : Reading × List Shown). all_before q.1 (samples_of rows q.0 rest)) same
 
 -- samples of a text after bytes, by what the first of them says
-samples_next : (rows : List Row) (bs rest : List ℕ) (after : Reading) (list : List Shown) (o : Option (Reading × Option Shown))
+samples_next : (rows : List Row) (bs rest : List ℕ) (after : Reading) (list : List Shown) (o : Option (Reading × Option Shown)) (flaw : Flaw)
     → ((r next : Reading) (list : List Shown) → bytes_taken rows r bs ≡ Some (next, list)
     → samples_of rows r (bs ++ rest) ≡ all_before list (samples_of rows next rest))
     → option_and_then (λ (taken : Reading × Option Shown). option_map (shown_first taken.1) (bytes_taken rows taken.0 bs)) o ≡ Some (after, list)
-    → samples_by rows o (bs ++ rest) ≡ all_before list (samples_of rows after rest)
-samples_next rows bs rest after list None then is = absurd (cc is)
-samples_next rows bs rest after list (Some taken) then is =
-    samples_then rows bs rest after list taken (bytes_taken rows taken.0 bs) refl (λ next list. then taken.0 next list) is
+    → samples_by rows (ok_or o flaw) (bs ++ rest) ≡ all_before list (samples_of rows after rest)
+samples_next rows bs rest after list None flaw others is = absurd (cc is)
+samples_next rows bs rest after list (Some taken) flaw others is =
+    samples_then rows bs rest after list taken (bytes_taken rows taken.0 bs) refl (λ next list. others taken.0 next list) is
 
 -- samples of a text after bytes
 bytes_samples : (rows : List Row) (line rest : List ℕ) (r after : Reading) (list : List Shown) → bytes_taken rows r line ≡ Some (after, list)
@@ -102,7 +107,7 @@ bytes_samples rows [] rest r after list is =
     let same : (r, none) ≡ (after, list) = cc is in
     ap (λ (q : Reading × List Shown). all_before q.1 (samples_of rows q.0 rest)) same
 bytes_samples rows (b ∷ bs) rest r after list is =
-    samples_next rows bs rest after list (byte_taken rows r b) (λ r next list. bytes_samples rows bs rest r next list) is
+    samples_next rows bs rest after list (byte_taken rows r b) (byte_flaw r b) (λ r next list. bytes_samples rows bs rest r next list) is
 
 -- a run that takes a line of a body
 pub line_judged : (map : Map) (old new : Run) (v : VcdReader) (r : Reading) (text rest : List ℕ) (step : Step) (goes_on : Bool)
@@ -161,14 +166,16 @@ line_reached map old new v (InBody r) text rest step goes_on is body says rows t
     }
 
 -- a run that rejects the text that is left, which has a body then
-pub text_rejected : (map : Map) (old new : Run) (reached : Reached) (text : List ℕ) (result : Result Bool AllocError)
+pub text_rejected : (map : Map) (old new : Run) (reached : Reached) (text : List ℕ) (line : ℕ) (fault : VcdFault) (result : Result Bool AllocError)
     → HasReached map reached old.vcd → (old.vcd.is_body ≡ false → ⊥)
     → ((r : Reading) → IsReading r old.vcd → IsBrokenText (rows_of old.vcd) r text) → IfOk result (λ goes_on. goes_on ≡ false)
-    → IfOk result (λ _. is_some new.rejection ≡ true) → IfOk result (λ _. new.judge ≡ old.judge)
-    → IfOk result (TakesDump map old new reached text)
-text_rejected map old new (InHeader h ds) text result is body broken stops rejected judge = absurd (body is.before.entered)
-text_rejected map old new (InBody r) text result is body broken stops rejected judge =
-    bytes_rejected map old new r text result (broken r is) stops rejected judge
+    → IfOk result (λ _. is_some new.rejection ≡ true)
+    → IfOk result (λ _. cause_of new.rejection ≡ (if is_some old.rejection then cause_of old.rejection else NoDump line fault))
+    → line ≡ old.vcd.line → fault ≡ TimeFalls → IfOk result (λ _. new.judge ≡ old.judge) → IfOk result (TakesDump map old new reached text)
+text_rejected map old new (InHeader h ds) text line fault result is body broken stops rejected cause same falls judge =
+    absurd (body is.before.entered)
+text_rejected map old new (InBody r) text line fault result is body broken stops rejected cause same falls judge =
+    bytes_rejected map old new r text (time_flaw r.line) line fault result (broken r is) stops rejected cause (same ∙ is.line) falls judge
 
 module _ (map : Map) (first mid new : Run) (reached : Reached) (bytes left line rest : List ℕ) (goes_on : Bool) (to : ReadsTo map first mid reached bytes left) where
   -- a run that stops at some of the bytes that are left

@@ -1,5 +1,5 @@
 -- The header of a dump, byte by byte, and the body after it.
-use Rattle.std.proofs.Common.{◌≡◌, ◌≢◌, ℕ, Bool, true, false, ◌==◌, ◌||◌, inl, inr, List, [], ◌∷◌, ◌++◌, subst, Option, Some, None, is_some, Result, Ok, Err, IfOk, Bor, refl, ap, sym, ◌∙◌}
+use Rattle.std.proofs.Common.{ok_or, ◌≡◌, ◌≢◌, ℕ, Bool, true, false, ◌==◌, ◌||◌, inl, inr, List, [], ◌∷◌, ◌++◌, subst, Option, Some, None, is_some, Result, Ok, Err, IfOk, Bor, refl, ap, sym, ◌∙◌}
 use Rattle.std.specs.Prelude.{if◌then◌else◌}
 use Rattle.std.specs.Option.{option_map, option_and_then}
 use Rattle.std.specs.declared.alloc.AllocError.{AllocError}
@@ -15,27 +15,30 @@ use Rattle.vme_vcd_reader.specs.declared.reader.Step.TheVariants as steps
 use Rattle.vme_vcd_reader.specs.declared.reader.VcdReader.{VcdReader}
 use Rattle.vme_vcd_reader.specs.declared.table.Row.{Row}
 use Rattle.vme_vcd_reader.specs.declared.variable.Mapped.{Mapped}
-use Rattle.vme_vcd_reader.specs.Bodies.{Reading, Shown, End, after_byte, before, byte_taken, ends_with, fact_taken, line_after, samples_by, samples_of, at_word}
+use Rattle.vme_vcd_reader.specs.Bodies.{Reading, Shown, after_byte, byte_taken, fact_taken, line_after, at_word}
 use Rattle.vme_vcd_reader.specs.Buses.{bus_after}
-use Rattle.vme_vcd_reader.specs.Headers.{Heading, Outcome, Goes, Declares, Ends, Rejects, byte_read}
+use Rattle.vme_vcd_reader.specs.Faults.{Flaw, byte_flaw, end_fault, end_flaw}
+use Rattle.vme_vcd_reader.specs.Headers.{Heading, Outcome, Goes, Declares, Ends, Rejects, byte_read, header_end}
 use Rattle.vme_vcd_reader.specs.Levels.{value_of}
 use Rattle.vme_vcd_reader.specs.Mapping.{Declaration, declaration}
 use Rattle.vme_vcd_reader.specs.Matches.{lines_of}
 use Rattle.vme_vcd_reader.specs.Openings.{opening_of}
 use Rattle.vme_vcd_reader.specs.Presences.{presence_of}
-use Rattle.vme_vcd_reader.specs.Readers.{EntersBody, IsHeader, IsHeadingFault, IsReading, ReportsSample, TakesHeading, rows_of}
+use Rattle.vme_vcd_reader.specs.Readers.{EntersBody, IsEndFault, IsHeader, IsHeadingFault, IsReading, ReportsSample, TakesHeading, rows_of}
+use Rattle.vme_vcd_reader.specs.Samples.{Broken, End, before, byte_result, ends_with, samples_by, samples_of}
 use Rattle.vme_vcd_reader.specs.Tables.{has_variable, variables_after, variables_of}
 use Rattle.vme_vcd_reader.specs.Words.{Awaited, Fact, Silence, At, Change, byte_says}
 use Rattle.vme_judge.specs.declared.dump.Ports.{Ports}
 use Rattle.vme_judge.specs.declared.options.Options.{Options}
 use Rattle.vme_judge.specs.declared.rejection.Rejection.{Rejection}
 use Rattle.vme_judge.specs.declared.run.Run.{Run}
-use Rattle.vme_judge.specs.DumpRuns.{BeginsBody, EndsHeader, IsDumpJudgedAs, InHeader, InBody, TakesDump, TakesLast, TakesNext, dump_at, dump_so_far, dump_whole, text_whole}
-use Rattle.vme_judge.specs.Dumps.{DumpSoFar, Broken, broken_off, dump_taken, with_presence}
-use Rattle.vme_judge.specs.DumpTexts.{body_judged, headed, header_judged, rows_with}
-use Rattle.vme_judge.specs.Runs.{RunsOnce}
+use Rattle.vme_judge.specs.DumpRuns.{BeginsBody, EndsDump, InHeader, InBody, TakesDump, TakesLast, TakesNext, dump_at, dump_so_far, dump_whole, text_whole}
+use Rattle.vme_judge.specs.Dumps.{DumpSoFar, broken_off, dump_taken, with_presence}
+use Rattle.vme_judge.specs.DumpTexts.{body_judged, headed, header_judged, header_over, rows_with}
+use Rattle.vme_judge.specs.Logs.{Cause, NoDump}
+use Rattle.vme_judge.specs.Runs.{RunsOnce, cause_of}
 use Rattle.vme_judge.specs.Standing.{Course, Falls, Found, IsStanding, Stands, course_map, standing}
-use Rattle.vme_judge.proofs.DumpRuns.{dump_rejected, rejected_is}
+use Rattle.vme_judge.proofs.DumpRuns.{dump_rejected, end_rejected, for_cause, text_broken}
 
 -- variables with other links
 abbrev relinked : List Row → List Row
@@ -78,48 +81,50 @@ byte_relinked : (rows : List Row) (r : Reading) (b : ℕ) → byte_taken (relink
 byte_relinked rows r b = ap (option_map (after_byte b)) (says_relinked rows r (byte_says r.awaited r.word b))
 
 -- samples do not depend on links
-samples_relinked : (rows : List Row) (text : List ℕ) (o : Option (Reading × Option Shown))
+samples_relinked : (rows : List Row) (text : List ℕ) (o : Result (Reading × Option Shown) Flaw)
     → samples_by (relinked rows) o text ≡ samples_by rows o text
-samples_relinked rows text None = refl
-samples_relinked rows [] (Some taken) = ap (λ o. before taken.1 (ends_with o)) (byte_relinked rows taken.0 32)
-samples_relinked rows (b ∷ bs) (Some taken) =
+samples_relinked rows text (Err flaw) = refl
+samples_relinked rows [] (Ok taken) =
+    ap (λ o. before taken.1 (ends_with (ok_or o (byte_flaw taken.0 32)))) (byte_relinked rows taken.0 32)
+samples_relinked rows (b ∷ bs) (Ok taken) =
     ap (before taken.1)
-    (samples_relinked rows bs (byte_taken (relinked rows) taken.0 b) ∙ ap (λ o. samples_by rows o bs) (byte_relinked rows taken.0 b))
+    (samples_relinked rows bs (byte_result (relinked rows) taken.0 b)
+    ∙ ap (λ o. samples_by rows (ok_or o (byte_flaw taken.0 b)) bs) (byte_relinked rows taken.0 b))
 
 -- a dump at the end of its header, by whether it is rejected
-headed_at : (p : Presence) (rejected : Bool) (c : Course) (ports : List (Option Port))
-    → dump_at rejected (course_map (with_presence p) c) ports ≡ headed p (dump_at rejected c ports)
-headed_at p true c ports = refl
-headed_at p false (Falls found) ports = refl
-headed_at p false (Stands m) ports = refl
+headed_at : (p : Presence) (rejected : Bool) (cause : Cause) (c : Course) (ports : List (Option Port))
+    → dump_at rejected cause (course_map (with_presence p) c) ports ≡ headed p (dump_at rejected cause c ports)
+headed_at p true cause c ports = refl
+headed_at p false cause (Falls found) ports = refl
+headed_at p false cause (Stands m) ports = refl
 
 module _ (old new : Run) (v : VcdReader) (lines : List (ℕ × Mapped)) (goes_on : Bool) where
   -- a run that begins with a body, by the lines of its header
   headed_is : v.presence ≡ presence_of lines → BeginsBody (record old { vcd = v }) new goes_on
       → dump_so_far new ≡ headed (presence_of lines) (dump_so_far old)
   headed_is presence begins =
-      ap (λ (r : Option Rejection). dump_at (is_some r) (standing new.judge) new.ports.last) begins.rejection
-      ∙ ap (λ c. dump_at (is_some old.rejection) c new.ports.last) begins.judged
-      ∙ ap (λ (ports : Ports). dump_at (is_some old.rejection) (course_map (with_presence v.presence) (standing old.judge)) ports.last)
-      begins.ports
-      ∙ ap (λ p. dump_at (is_some old.rejection) (course_map (with_presence p) (standing old.judge)) old.ports.last) presence
-      ∙ headed_at (presence_of lines) (is_some old.rejection) (standing old.judge) old.ports.last
+      ap (λ (r : Option Rejection). dump_at (is_some r) (cause_of r) (standing new.judge) new.ports.last) begins.rejection
+      ∙ ap (λ c. dump_at (is_some old.rejection) (cause_of old.rejection) c new.ports.last) begins.judged
+      ∙ ap (λ (ports : Ports). dump_at (is_some old.rejection) (cause_of old.rejection)
+      (course_map (with_presence v.presence) (standing old.judge)) ports.last) begins.ports
+      ∙ ap (λ p. dump_at (is_some old.rejection) (cause_of old.rejection) (course_map (with_presence p) (standing old.judge)) old.ports.last) presence
+      ∙ headed_at (presence_of lines) (is_some old.rejection) (cause_of old.rejection) (standing old.judge) old.ports.last
 
   -- the samples of its body
   body_samples : (r : Reading) (rest : List ℕ) → variables_of (rows_of v) ≡ lines → BeginsBody (record old { vcd = v }) new goes_on
       → samples_of (rows_with lines) r rest ≡ samples_of (rows_of new.vcd) r rest
   body_samples r rest variables begins =
       ap (λ lines. samples_of (rows_with lines) r rest) (sym variables)
-      ∙ samples_relinked (rows_of v) rest (Some (r, None))
+      ∙ samples_relinked (rows_of v) rest (Ok (r, None))
       ∙ ap (λ (v : VcdReader). samples_of (rows_of v) r rest) (sym begins.reader)
 
   -- the whole of it
-  body_begun : (line : ℕ) (rest : List ℕ) → v.line ≡ line → variables_of (rows_of v) ≡ lines → v.presence ≡ presence_of lines
+  body_begun : (at line : ℕ) (rest : List ℕ) → v.line ≡ line → variables_of (rows_of v) ≡ lines → v.presence ≡ presence_of lines
       → BeginsBody (record old { vcd = v }) new goes_on
-      → body_judged old.judge.options.now (dump_so_far old) (Ok lines) line rest
+      → body_judged old.judge.options.now (dump_so_far old) (Ok lines) at line rest
       ≡ dump_whole new (opening_of (presence_of lines).busy v.line) rest
-  body_begun line rest same variables presence begins =
-      ap (λ line. body_judged old.judge.options.now (dump_so_far old) (Ok lines) line rest) (sym same)
+  body_begun at line rest same variables presence begins =
+      ap (λ line. body_judged old.judge.options.now (dump_so_far old) (Ok lines) at line rest) (sym same)
       ∙ ap (dump_taken old.judge.options.now (headed (presence_of lines) (dump_so_far old)))
       (body_samples (opening_of (presence_of lines).busy v.line) rest variables begins)
       ∙ ap (λ d. dump_taken old.judge.options.now d (samples_of (rows_of new.vcd) (opening_of (presence_of lines).busy v.line) rest))
@@ -147,23 +152,30 @@ begins_once old new v goes_on begins = λ once going. (
 )
 
 -- a header that declares a variable goes on with it
-declares_as : (o : Options) (map : Map) (d : DumpSoFar) (ds : List Declaration) (h : Heading) (line : ℕ) (text : List ℕ)
-    → header_judged o map d ds (Declares h) line text ≡ header_judged o map d (ds ++ declaration h ∷ []) (Goes h) line text
-declares_as o map d ds h line [] = refl
-declares_as o map d ds h line (b ∷ bs) = refl
+declares_as : (o : Options) (map : Map) (d : DumpSoFar) (ds : List Declaration) (h : Heading) (at now line : ℕ) (text : List ℕ)
+    → header_judged o map d ds (Declares h) at line text ≡ header_judged o map d (ds ++ declaration h ∷ []) (Goes h) now line text
+declares_as o map d ds h at now line [] = refl
+declares_as o map d ds h at now line (b ∷ bs) = refl
+
+-- a header that goes on does so whatever line was read last
+pub goes_as : (o : Options) (map : Map) (d : DumpSoFar) (ds : List Declaration) (h : Heading) (at now line : ℕ) (text : List ℕ)
+    → header_judged o map d ds (Goes h) at line text ≡ header_judged o map d ds (Goes h) now line text
+goes_as o map d ds h at now line [] = refl
+goes_as o map d ds h at now line (b ∷ bs) = refl
 
 -- the same header of the same dump
 header_same : (o p : Options) (map : Map) (d e : DumpSoFar) (ds : List Declaration) (out : Outcome) (line now : ℕ) (text : List ℕ) → p ≡ o
-    → e ≡ d → now ≡ line → header_judged o map d ds out line text ≡ header_judged p map e ds out now text
+    → e ≡ d → now ≡ line → header_judged o map d ds out line line text ≡ header_judged p map e ds out now now text
 header_same o p map d e ds out line now text options dump same =
-    ap (λ o. header_judged o map d ds out line text) (sym options) ∙ ap (λ d. header_judged p map d ds out line text) (sym dump)
-    ∙ ap (λ line. header_judged p map e ds out line text) (sym same)
+    ap (λ o. header_judged o map d ds out line line text) (sym options) ∙ ap (λ d. header_judged p map d ds out line line text) (sym dump)
+    ∙ ap (λ line. header_judged p map e ds out line line text) (sym same)
 
 module _ (map : Map) (old new : Run) (v : VcdReader) (h : Heading) (ds : List Declaration) (byte : ℕ) (goes_on : Bool) where
   -- a run that goes on with a header
   heading_goes : (next : Heading) (all : List Declaration) → ((rest : List ℕ) → header_judged old.judge.options.now map (dump_so_far old) ds
-      (byte_read h byte) (line_after byte old.vcd.line) rest
-      ≡ header_judged old.judge.options.now map (dump_so_far old) all (Goes next) (line_after byte old.vcd.line) rest)
+      (byte_read h byte) old.vcd.line (line_after byte old.vcd.line) rest
+      ≡ header_judged old.judge.options.now map (dump_so_far old) all (Goes next) (line_after byte old.vcd.line)
+      (line_after byte old.vcd.line) rest)
       → IsHeader map next all v → v.line ≡ line_after byte old.vcd.line → TakesNext (record old { vcd = v }) new None goes_on
       → goes_on ≡ true → TakesDump map old new (InHeader h ds) (byte ∷ []) goes_on
   heading_goes next all same header line takes on = record {
@@ -193,9 +205,9 @@ module _ (map : Map) (old new : Run) (v : VcdReader) (h : Heading) (ds : List De
       reading = subst (IsReading (opening_of (presence_of lines).busy v.line)) (sym begins.reader) enters.2;
       unjudged = λ d was. tt;
       judges = λ rest.
-          ap (λ out. header_judged old.judge.options.now map (dump_so_far old) ds out (line_after byte old.vcd.line) rest) ends
-          ∙ ap (λ lines. body_judged old.judge.options.now (dump_so_far old) lines (line_after byte old.vcd.line) rest) is
-          ∙ body_begun old new v lines goes_on (line_after byte old.vcd.line) rest line enters.0 enters.1 begins;
+          ap (λ out. header_judged old.judge.options.now map (dump_so_far old) ds out old.vcd.line (line_after byte old.vcd.line) rest) ends
+          ∙ ap (λ lines. body_judged old.judge.options.now (dump_so_far old) lines old.vcd.line (line_after byte old.vcd.line) rest) is
+          ∙ body_begun old new v lines goes_on old.vcd.line (line_after byte old.vcd.line) rest line enters.0 enters.1 begins;
     };
     stops = λ off. absurd (cc (off, begins.goes));
     stays = λ found. fell_headed v.presence (standing old.judge) (standing new.judge) found begins.judged;
@@ -210,51 +222,43 @@ heading_by : (map : Map) (old new : Run) (v : VcdReader) (h : Heading) (ds : Lis
     → TakesDump map old new (InHeader h ds) (byte ∷ []) goes_on
 heading_by map old new v h ds byte step (Goes next) goes_on is takes line sample begins more =
     heading_goes map old new v h ds byte goes_on next ds
-    (λ rest. ap (λ out. header_judged old.judge.options.now map (dump_so_far old) ds out (line_after byte old.vcd.line) rest) is) takes.1 line
+    (λ rest. ap (λ out. header_judged old.judge.options.now map (dump_so_far old) ds out old.vcd.line (line_after byte old.vcd.line) rest) is
+    ∙ goes_as old.judge.options.now map (dump_so_far old) ds next old.vcd.line (line_after byte old.vcd.line) (line_after byte old.vcd.line) rest)
+    takes.1 line
     (sample None takes.0) (more takes.0)
 heading_by map old new v h ds byte step (Declares next) goes_on is takes line sample begins more =
     heading_goes map old new v h ds byte goes_on next (ds ++ declaration next ∷ [])
-    (λ rest. ap (λ out. header_judged old.judge.options.now map (dump_so_far old) ds out (line_after byte old.vcd.line) rest) is
-    ∙ declares_as old.judge.options.now map (dump_so_far old) ds next (line_after byte old.vcd.line) rest) takes.1 line
+    (λ rest. ap (λ out. header_judged old.judge.options.now map (dump_so_far old) ds out old.vcd.line (line_after byte old.vcd.line) rest) is
+    ∙ declares_as old.judge.options.now map (dump_so_far old) ds next old.vcd.line (line_after byte old.vcd.line) (line_after byte old.vcd.line)
+    rest) takes.1 line
     (sample None takes.0) (more takes.0)
 heading_by map old new v h ds byte step Ends goes_on is takes line sample begins more =
     heading_ends map old new v h ds byte goes_on (lines_of map ds) is refl takes.1 line (begins takes.0)
 heading_by map old new v h ds byte step (Rejects fault) goes_on is takes line sample begins more = absurd takes
 
--- a dump that is rejected within its header
-broken_header : (rejected : Bool) (c n : Course) (ports : List (Option Port)) → n ≡ c
-    → IsDumpJudgedAs (broken_off (dump_at rejected c ports)) Broken n
-broken_header true c n ports same = inl refl
-broken_header false (Falls found) n ports same = inr (found, refl, same)
-broken_header false (Stands m) n ports same = inl refl
-
--- a run that rejects a header
-header_rejected : (old new : Run) (whole : DumpSoFar) → whole ≡ broken_off (dump_so_far old) → is_some new.rejection ≡ true
-    → new.judge ≡ old.judge → IsDumpJudgedAs whole (dump_so_far new) (standing new.judge)
-header_rejected old new whole is rejected judge =
-    subst (λ whole. IsDumpJudgedAs whole (dump_so_far new) (standing new.judge)) (sym is)
-    (subst (λ d. IsDumpJudgedAs (broken_off (dump_so_far old)) d (standing new.judge)) (sym (rejected_is new rejected))
-    (broken_header (is_some old.rejection) (standing old.judge) (standing new.judge) old.ports.last (ap (λ j. standing j) judge)))
-
 -- why a header is rejected: whatever follows, the text is no dump
-broken_by : (o : Options) (map : Map) (d : DumpSoFar) (ds : List Declaration) (out : Outcome) (fault : VcdFault) (line : ℕ)
-    (rest : List ℕ) → IsHeadingFault out (lines_of map ds) fault → fault ≢ Memory → header_judged o map d ds out line rest ≡ broken_off d
-broken_by o map d ds (Goes h) fault line rest is why = absurd (why is)
-broken_by o map d ds (Declares h) fault line rest is why = absurd (why is)
-broken_by o map d ds (Rejects f) fault line rest is why = refl
-broken_by o map d ds Ends fault line rest (inl is) why = absurd (why is)
-broken_by o map d ds Ends fault line rest (inr is) why = ap (λ lines. body_judged o d lines line rest) is
+broken_by : (o : Options) (map : Map) (d : DumpSoFar) (ds : List Declaration) (out : Outcome) (fault : VcdFault) (at line : ℕ)
+    (rest : List ℕ) → IsHeadingFault out (lines_of map ds) fault → fault ≢ Memory
+    → header_judged o map d ds out at line rest ≡ broken_off (NoDump at fault) d
+broken_by o map d ds (Goes h) fault at line rest is why = absurd (why is)
+broken_by o map d ds (Declares h) fault at line rest is why = absurd (why is)
+broken_by o map d ds (Rejects f) fault at line rest is why = ap (λ f. broken_off (NoDump at f) d) (sym is)
+broken_by o map d ds Ends fault at line rest (inl is) why = absurd (why is)
+broken_by o map d ds Ends fault at line rest (inr is) why = ap (λ lines. body_judged o d lines at line rest) is
 
 -- a run that rejects a byte of a header
-pub heading_rejected : (map : Map) (old new : Run) (h : Heading) (ds : List Declaration) (byte : ℕ) (fault : VcdFault)
+pub heading_rejected : (map : Map) (old new : Run) (h : Heading) (ds : List Declaration) (byte line : ℕ) (fault : VcdFault)
     (result : Result Bool AllocError) → IsHeadingFault (byte_read h byte) (lines_of map ds) fault → IfOk result (λ goes_on. goes_on ≡ false)
-    → IfOk result (λ _. is_some new.rejection ≡ true) → IfOk result (λ _. new.judge ≡ old.judge) → IfOk result (λ _. fault ≢ Memory)
+    → IfOk result (λ _. is_some new.rejection ≡ true)
+    → IfOk result (λ _. cause_of new.rejection ≡ (if is_some old.rejection then cause_of old.rejection else NoDump line fault))
+    → line ≡ old.vcd.line → IfOk result (λ _. new.judge ≡ old.judge) → IfOk result (λ _. fault ≢ Memory)
     → IfOk result (TakesDump map old new (InHeader h ds) (byte ∷ []))
-heading_rejected map old new h ds byte fault (Err failed) is stops rejected judge why = tt
-heading_rejected map old new h ds byte fault (Ok goes_on) is stops rejected judge why =
+heading_rejected map old new h ds byte line fault (Err failed) is stops rejected cause same judge why = tt
+heading_rejected map old new h ds byte line fault (Ok goes_on) is stops rejected cause same judge why =
     dump_rejected map old new (InHeader h ds) (byte ∷ []) goes_on
-    (λ rest. header_rejected old new (text_whole map old (InHeader h ds) (byte ∷ rest))
-    (broken_by old.judge.options.now map (dump_so_far old) ds (byte_read h byte) fault (line_after byte old.vcd.line) rest is why) rejected judge) stops judge
+    (λ rest. text_broken old new (text_whole map old (InHeader h ds) (byte ∷ rest)) (NoDump old.vcd.line fault)
+    (broken_by old.judge.options.now map (dump_so_far old) ds (byte_read h byte) fault old.vcd.line (line_after byte old.vcd.line) rest is why)
+    (for_cause old new line old.vcd.line fault fault rejected cause same refl) judge) stops judge
 
 -- a run that takes a byte of a header
 pub heading_judged : (map : Map) (old new : Run) (v : VcdReader) (h : Heading) (ds : List Declaration) (byte : ℕ) (step : Step)
@@ -266,12 +270,34 @@ heading_judged map old new v h ds byte step (Err failed) takes line sample begin
 heading_judged map old new v h ds byte step (Ok goes_on) takes line sample begins more =
     heading_by map old new v h ds byte step (byte_read h byte) goes_on refl takes line sample begins more
 
--- a run that ends within a header
-pub header_ended : (old new : Run) (v : VcdReader) (result : Result (Unit {0}) AllocError)
-    → IfOk result (λ _. TakesLast (record old { vcd = v }) new End) → IfOk result (λ _. EndsHeader old new)
-header_ended old new v (Err failed) takes = tt
-header_ended old new v (Ok value) takes = record {
-  dump = inl takes.dump;
+-- a run that ends with a header, which is whole
+pub header_ended : (map : Map) (old new : Run) (v : VcdReader) (h : Heading) (ds : List Declaration) (result : Result (Unit {0}) AllocError)
+    → header_end (byte_read h 32) (lines_of map ds) ≡ None → IfOk result (λ _. TakesLast (record old { vcd = v }) new End)
+    → IfOk result (λ _. EndsDump map old new (InHeader h ds))
+header_ended map old new v h ds (Err failed) whole takes = tt
+header_ended map old new v h ds (Ok value) whole takes = record {
+  judges = inl (takes.dump ∙ sym (ap (header_over (dump_so_far old) old.vcd.line) whole));
   stays = takes.stays;
   once = takes.once;
 }
+
+-- a run that ends within a header, or with one that is none
+pub header_cut : (map : Map) (old new : Run) (h : Heading) (ds : List Declaration) (line : ℕ) (fault : VcdFault)
+    → IsEndFault (header_end (byte_read h 32) (lines_of map ds)) fault → fault ≢ Memory → is_some new.rejection ≡ true
+    → cause_of new.rejection ≡ (if is_some old.rejection then cause_of old.rejection else NoDump line fault) → line ≡ old.vcd.line
+    → new.judge ≡ old.judge → EndsDump map old new (InHeader h ds)
+header_cut map old new h ds line fault (inl memory) why rejected cause same judge = absurd (why memory)
+header_cut map old new h ds line fault (inr is) why rejected cause same judge =
+    end_rejected map old new (InHeader h ds) (NoDump old.vcd.line fault) (ap (header_over (dump_so_far old) old.vcd.line) is)
+    (for_cause old new line old.vcd.line fault fault rejected cause same refl) judge
+
+-- a run that ends within a word or a change of a body
+pub body_cut : (map : Map) (old new : Run) (r : Reading) (line : ℕ) (fault : VcdFault) → IsReading r old.vcd
+    → samples_of (rows_of old.vcd) r [] ≡ Broken (end_flaw (rows_of old.vcd) r) → fault ≡ end_fault (rows_of old.vcd) r
+    → is_some new.rejection ≡ true
+    → cause_of new.rejection ≡ (if is_some old.rejection then cause_of old.rejection else NoDump line fault) → line ≡ old.vcd.line
+    → new.judge ≡ old.judge → EndsDump map old new (InBody r)
+body_cut map old new r line fault is broken why rejected cause same judge =
+    end_rejected map old new (InBody r) (NoDump r.line (end_fault (rows_of old.vcd) r))
+    (ap (dump_taken old.judge.options.now (dump_so_far old)) broken)
+    (for_cause old new line r.line fault (end_fault (rows_of old.vcd) r) rejected cause (same ∙ is.line) why) judge

@@ -1,7 +1,6 @@
 -- A dump that is judged piece by piece, from the text to the status.
-use Rattle.std.proofs.Common.{◌≡◌, ℕ, Bool, true, false, inl, inr, ◌⊎◌, List, [], ◌++◌, replicate, Option, Some, None, Result, Ok, Err, IfOk, refl, ap, sym, ◌∙◌}
+use Rattle.std.proofs.Common.{◌≡◌, ℕ, Bool, true, false, inl, inr, ◌⊎◌, List, [], ◌++◌, Option, Some, None, Result, Ok, Err, IfOk, refl, ap, sym, ◌∙◌}
 use Rattle.std.specs.Io.KnownBytes.{Consumes}
-use Rattle.std.specs.Prelude.{if◌then◌else◌}
 use Rattle.std.specs.declared.alloc.AllocError.{AllocError}
 use Rattle.std.specs.declared.alloc.Global.{Global}
 use Rattle.std.specs.declared.string.String.{String}
@@ -14,9 +13,7 @@ use Rattle.vme_judge.specs.declared.run.Kind.TheVariants as kinds
 use Rattle.vme_judge.specs.declared.run.Run.{Run}
 use Rattle.vme_judge.specs.Blanks.{AreBlanks, IsAtStart, IsBlankSoFar, TakesFirst, TakesFurther, blanks_whole}
 use Rattle.vme_judge.specs.DumpRuns.{HasReached, InBody, InHeader, IsUnjudged, Reached, TakesDump, TakesPiece, dump_so_far, text_whole}
-use Rattle.vme_judge.specs.Dumps.{DumpSoFar, Legal, Broken}
-use Rattle.vme_judge.specs.DumpTexts.{dump_of, has_long_blanks, header_judged}
-use Rattle.vme_judge.specs.Openings.{opening}
+use Rattle.vme_judge.specs.DumpTexts.{after_blanks, dump_of, header_judged, long_blanks, unjudged}
 use Rattle.vme_judge.specs.Runs.{IsGoing, IsOnceRun, form_after, is_no_dump}
 use Rattle.vme_judge.specs.Standing.{standing}
 use Rattle.vme_judge.specs.Verdicts.{is_log}
@@ -30,10 +27,6 @@ pub piece_known : (map : Map) (old new : Run) (reached : Reached) (bytes : List 
     → IfOk result (TakesPiece map old new reached bytes)
 piece_known map old new reached bytes (Err fault) takes stays is = tt
 piece_known map old new reached bytes (Ok goes_on) takes stays is = (stays ∙ is, takes)
-
--- a dump of which nothing is judged
-abbrev pub unjudged : Options → List Board → DumpSoFar
-unjudged o boards = Legal (opening o boards) (replicate 21 None)
 
 -- a run is before the first byte of a dump that is no blank
 pub record IsDumpAhead (o : Options) (map : Map) (boards : List Board) (text rest : List ℕ) (run : Run) : Type 0 where
@@ -73,20 +66,22 @@ is_dump kinds.Unknown is = absurd (cc is)
 -- a run before the first byte
 pub dump_begins : (o : Options) (map : Map) (boards : List Board) (whole : Option (List ℕ)) (run : Run)
     → dump_so_far run ≡ unjudged o boards → IsGoing run → run.judge.options.now ≡ o → run.judge.found ≡ 0
-    → IsAtStart map run.vcd → run.log.line ≡ [] → run.kind ≡ kinds.Unknown → DumpBetween o map boards whole whole run
+    → IsAtStart map run.vcd → run.log.line ≡ [] → run.log.number ≡ 1 → run.kind ≡ kinds.Unknown → DumpBetween o map boards whole whole run
 unfolding dump_of
-dump_begins o map boards None run opens going options found header line kind = tt
-dump_begins o map boards (Some text) run opens going options found start line kind = λ dump. inl (record {
+dump_begins o map boards None run opens going options found header line number kind = tt
+dump_begins o map boards (Some text) run opens going options found start line number kind = λ dump. inl (record {
   kind = kind;
   form = is_dump (form_after kinds.Unknown text) (sym (log_form text) ∙ dump);
   line = [];
   blanks = record { reader = start.0; begin = fresh run.log line };
   none = opens;
   judged =
-      ap (λ d. let r : DumpSoFar = if has_long_blanks 0 text then Broken else d in r) (
-      ap (λ d. header_judged o map d [] (Goes beginning) 1 text) (sym opens)
-      ∙ ap (λ o. header_judged o map (dump_so_far run) [] (Goes beginning) 1 text) (sym options)
-      ∙ ap (λ line. header_judged run.judge.options.now map (dump_so_far run) [] (Goes beginning) line text) (sym start.1)
+      ap (λ d. after_blanks (long_blanks 0 1 text) d (header_judged o map d [] (Goes beginning) 1 1 text)) (sym opens)
+      ∙ ap (λ number. after_blanks (long_blanks 0 number text) (dump_so_far run)
+      (header_judged o map (dump_so_far run) [] (Goes beginning) 1 1 text)) (sym number)
+      ∙ ap (after_blanks (long_blanks 0 run.log.number text) (dump_so_far run)) (
+      ap (λ o. header_judged o map (dump_so_far run) [] (Goes beginning) 1 1 text) (sym options)
+      ∙ ap (λ line. header_judged run.judge.options.now map (dump_so_far run) [] (Goes beginning) line line text) (sym start.1)
       );
   once = λ one. (((ap (λ (o : Options). o.limit) options ∙ one, found), λ none. going.1), going);
 })

@@ -1,5 +1,5 @@
 -- A dump that is judged while it is read.
-use Rattle.std.proofs.Common.{◌≡◌, ℕ, Bool, true, false, inl, inr, List, [], ◌∷◌, ◌++◌, replicate, subst, Option, Some, None, is_some, Result, Ok, Err, IfOk, Bor, refl, ap, sym, ◌∙◌}
+use Rattle.std.proofs.Common.{ok_or, if◌then◌else◌, ◌≡◌, ℕ, Bool, true, false, inl, inr, List, [], ◌∷◌, ◌++◌, replicate, subst, Option, Some, None, is_some, Result, Ok, Err, IfOk, Bor, refl, ap, sym, ◌∙◌}
 use Rattle.std.specs.declared.alloc.AllocError.{AllocError}
 use Rattle.std.proofs.lemmas.Bool.{false≢true}
 use Rattle.vme_line_map.specs.Variables.{Map}
@@ -8,15 +8,20 @@ use Rattle.vme_vcd_reader.specs.declared.reader.Step.{Step}
 use Rattle.vme_vcd_reader.specs.declared.reader.Step.TheVariants as steps
 use Rattle.vme_vcd_reader.specs.declared.reader.VcdReader.{VcdReader}
 use Rattle.vme_vcd_reader.specs.declared.table.Row.{Row}
-use Rattle.vme_vcd_reader.specs.Bodies.{Reading, Shown, Samples, Sample, End, Broken as BrokenBody, before, byte_taken, samples_by, samples_of}
+use Rattle.vme_vcd_reader.specs.Bodies.{Reading, Shown, byte_taken}
+use Rattle.vme_vcd_reader.specs.declared.fault.VcdFault.{VcdFault}
+use Rattle.vme_vcd_reader.specs.Faults.{Flaw, byte_flaw}
 use Rattle.vme_vcd_reader.specs.Lines.{list_of, shown_first}
 use Rattle.vme_vcd_reader.specs.Readers.{IsReading, ReportsLast, ReportsSample, TakesRead, rows_of, samples_left, shown_last}
+use Rattle.vme_vcd_reader.specs.Samples.{Samples, Sample, End, Broken as BrokenBody, before, samples_by, samples_of}
 use Rattle.vme_judge.specs.declared.dump.Ports.{Ports}
 use Rattle.vme_judge.specs.declared.judge.Judge.{Judge}
 use Rattle.vme_judge.specs.declared.options.Options.{Options}
 use Rattle.vme_judge.specs.declared.run.Run.{Run}
-use Rattle.vme_judge.specs.DumpRuns.{EndsDump, EndsOnce, IsDumpJudgedAs, JudgesDump, Reached, InBody, TakesDump, TakesLast, TakesNext, TakesShown, dump_at, dump_so_far, dump_whole, next_if, shown_by}
-use Rattle.vme_judge.specs.Dumps.{DumpSoFar, Legal, Illegal, Broken, dump_by, dump_taken, next_shown}
+use Rattle.vme_judge.specs.DumpRuns.{EndsDump, EndsOnce, IsDumpJudgedAs, JudgesDump, Reached, InBody, TakesDump, TakesLast, TakesNext, TakesShown, dump_at, dump_so_far, dump_whole, next_if, shown_by, text_whole}
+use Rattle.vme_judge.specs.Dumps.{DumpSoFar, Legal, Illegal, Broken, broken_off, dump_by, dump_taken, next_shown}
+use Rattle.vme_judge.specs.Logs.{Cause, NoDump}
+use Rattle.vme_judge.specs.Runs.{cause_of}
 use Rattle.vme_judge.specs.Standing.{Course, Falls, Found, HasFallen, Standing, Stands, standing, stands, IsOnce}
 
 -- an illegal dump has fallen
@@ -25,10 +30,10 @@ dump_fell (Falls other) ports found is = ap Falls (let same : other ≡ found = 
 dump_fell (Stands m) ports found is = absurd (cc is)
 
 -- a sample, by whether the dump is rejected
-next_at : (o : Options) (s : Shown) (rejected : Bool) (c n : Course) (last next : List (Option Port))
-    → dump_by n next ≡ next_shown o s (dump_by c last) → dump_at rejected n next ≡ next_shown o s (dump_at rejected c last)
-next_at o s true c n last next is = refl
-next_at o s false c n last next is = is
+next_at : (o : Options) (s : Shown) (rejected : Bool) (cause : Cause) (c n : Course) (last next : List (Option Port))
+    → dump_by n next ≡ next_shown o s (dump_by c last) → dump_at rejected cause n next ≡ next_shown o s (dump_at rejected cause c last)
+next_at o s true cause c n last next is = refl
+next_at o s false cause c n last next is = is
 
 -- what was found stays found after a sample
 next_fell : (o : Options) (s : Shown) (c n : Course) (last next : List (Option Port)) → dump_by n next ≡ next_shown o s (dump_by c last)
@@ -46,7 +51,7 @@ pub shown_next : (old : Run) (judge : Judge) (ports : Ports) (s : Shown) (result
     → IfOk result (TakesNext old (record old { judge = judge; ports = ports }) (Some s))
 shown_next old judge ports s (Err fault) takes = tt
 shown_next old judge ports s (Ok goes_on) takes = record {
-  dump = next_at old.judge.options.now s (is_some old.rejection) (standing old.judge) (standing judge) old.ports.last ports.last takes.dump;
+  dump = next_at old.judge.options.now s (is_some old.rejection) (cause_of old.rejection) (standing old.judge) (standing judge) old.ports.last ports.last takes.dump;
   reader = refl;
   options = takes.options;
   stops = takes.stops;
@@ -98,7 +103,7 @@ dump_before o d (Some s) samples = refl
 
 -- samples of a text after what a byte completes
 pub samples_first : (rows : List Row) (taken : Reading × Option Shown) (rest : List ℕ)
-    → samples_by rows (Some taken) rest ≡ before taken.1 (samples_of rows taken.0 rest)
+    → samples_by rows (Ok taken) rest ≡ before taken.1 (samples_of rows taken.0 rest)
 samples_first rows taken [] = refl
 samples_first rows taken (b ∷ bs) = refl
 
@@ -124,20 +129,20 @@ first_reading None more = refl
 first_reading (Some s) more = refl
 
 -- a dump that nothing changes
-over_at : (o : Options) (rejected : Bool) (c : Course) (ports : List (Option Port)) (samples : Samples) → HasFallen c
-    → dump_taken o (dump_at rejected c ports) samples ≡ dump_at rejected c ports
-over_at o true c ports End fell = refl
-over_at o true c ports BrokenBody fell = refl
-over_at o true c ports (Sample s samples) fell = over_at o true c ports samples fell
-over_at o false (Stands m) ports samples fell = absurd (cc fell)
-over_at o false (Falls found) ports End fell = refl
-over_at o false (Falls found) ports BrokenBody fell = refl
-over_at o false (Falls found) ports (Sample s samples) fell = over_at o false (Falls found) ports samples fell
+over_at : (o : Options) (rejected : Bool) (cause : Cause) (c : Course) (ports : List (Option Port)) (samples : Samples) → HasFallen c
+    → dump_taken o (dump_at rejected cause c ports) samples ≡ dump_at rejected cause c ports
+over_at o true cause c ports End fell = refl
+over_at o true cause c ports (BrokenBody flaw) fell = refl
+over_at o true cause c ports (Sample s samples) fell = over_at o true cause c ports samples fell
+over_at o false cause (Stands m) ports samples fell = absurd (cc fell)
+over_at o false cause (Falls found) ports End fell = refl
+over_at o false cause (Falls found) ports (BrokenBody flaw) fell = refl
+over_at o false cause (Falls found) ports (Sample s samples) fell = over_at o false cause (Falls found) ports samples fell
 
 -- a run that has found something is over
 over : (o : Options) (run : Run) (samples : Samples) → HasFallen (standing run.judge) → dump_taken o (dump_so_far run) samples ≡ dump_so_far run
 over o run samples fell =
-    over_at o (is_some run.rejection) (standing run.judge) run.ports.last samples fell
+    over_at o (is_some run.rejection) (cause_of run.rejection) (standing run.judge) run.ports.last samples fell
 
 -- what is left of a dump, by what is read of it
 whole_same : (o p : Options) (d e : DumpSoFar) (rows all : List Row) (after : Reading) (rest : List ℕ) → p ≡ o → e ≡ d → all ≡ rows
@@ -191,7 +196,7 @@ byte_by map old new v r byte step o (Err fault) is reads rows takes = tt
 byte_by map old new v r byte step None (Ok goes_on) is reads rows takes = absurd reads
 byte_by map old new v r byte step (Some taken) (Ok goes_on) is reads rows takes =
     bytes_judged map old new v r taken.0 (byte ∷ []) taken.1 goes_on
-    (λ rest. ap (λ o. samples_by (rows_of old.vcd) o rest) is ∙ samples_first (rows_of old.vcd) taken rest) reads.0 rows (takes taken.1 reads.1)
+    (λ rest. ap (λ o. samples_by (rows_of old.vcd) (ok_or o (byte_flaw r byte)) rest) is ∙ samples_first (rows_of old.vcd) taken rest) reads.0 rows (takes taken.1 reads.1)
 
 -- a run that takes the byte of a body
 pub byte_judged : (map : Map) (old new : Run) (v : VcdReader) (r : Reading) (byte : ℕ) (step : Step) (result : Result Bool AllocError)
@@ -201,24 +206,51 @@ pub byte_judged : (map : Map) (old new : Run) (v : VcdReader) (r : Reading) (byt
 byte_judged map old new v r byte step result reads rows takes =
     byte_by map old new v r byte step (byte_taken (rows_of old.vcd) r byte) result refl reads rows takes
 
--- a dump whose text is none of a body, by what was judged of it before
-broken_at : (o : Options) (rejected : Bool) (c n : Course) (ports : List (Option Port)) (samples : Samples) → samples ≡ BrokenBody
-    → n ≡ c → IsDumpJudgedAs (dump_taken o (dump_at rejected c ports) samples) Broken n
-broken_at o true c n ports samples is same = inl (sym (ap (dump_taken o Broken) is))
-broken_at o false (Falls found) n ports samples is same = inr (found, ap (dump_taken o (Illegal found)) is, same)
-broken_at o false (Stands m) n ports samples is same = inl (sym (ap (dump_taken o (Legal m ports)) is))
+-- a dump whose text is none of a dump, by what was judged of it before
+broken_at : (rejected : Bool) (before cause : Cause) (c n : Course) (ports : List (Option Port)) → n ≡ c
+    → IsDumpJudgedAs (broken_off cause (dump_at rejected before c ports)) (Broken (if rejected then before else cause)) n
+broken_at true before cause c n ports same = inl refl
+broken_at false before cause (Falls found) n ports same = inr (found, refl, same)
+broken_at false before cause (Stands m) n ports same = inl refl
+
+-- a run has rejected a dump for a cause, unless it had rejected it before
+abbrev pub IsRejectedAs : Run → Run → Cause → Type 0
+IsRejectedAs old new cause =
+    (is_some new.rejection ≡ true)
+    × (cause_of new.rejection ≡ (if is_some old.rejection then cause_of old.rejection else cause))
+
+-- the same for another cause that is the same one
+pub for_cause : (old new : Run) (line at : ℕ) (fault why : VcdFault) → is_some new.rejection ≡ true
+    → cause_of new.rejection ≡ (if is_some old.rejection then cause_of old.rejection else NoDump line fault) → line ≡ at → fault ≡ why
+    → IsRejectedAs old new (NoDump at why)
+for_cause old new line at fault why rejected cause same is = (
+  rejected,
+  cause ∙ ap (λ cause. let r : Cause = if is_some old.rejection then cause_of old.rejection else cause in r)
+      (ap (λ line. NoDump line fault) same ∙ ap (NoDump at) is),
+)
 
 -- a run that has rejected a dump
-pub rejected_is : (run : Run) → is_some run.rejection ≡ true → dump_so_far run ≡ Broken
-rejected_is run is = ap (λ rejected. dump_at rejected (standing run.judge) run.ports.last) is
+pub rejected_is : (old new : Run) (cause : Cause) → IsRejectedAs old new cause
+    → dump_so_far new ≡ Broken (if is_some old.rejection then cause_of old.rejection else cause)
+rejected_is old new cause is =
+    ap (λ rejected. dump_at rejected (cause_of new.rejection) (standing new.judge) new.ports.last) is.0 ∙ ap Broken is.1
+
+-- a run that rejects a dump, whose text is none of a dump for a cause
+pub text_broken : (old new : Run) (whole : DumpSoFar) (cause : Cause) → whole ≡ broken_off cause (dump_so_far old)
+    → IsRejectedAs old new cause → new.judge ≡ old.judge → IsDumpJudgedAs whole (dump_so_far new) (standing new.judge)
+text_broken old new whole cause is rejected judge =
+    subst (λ whole. IsDumpJudgedAs whole (dump_so_far new) (standing new.judge)) (sym is)
+    (subst (λ d. IsDumpJudgedAs (broken_off cause (dump_so_far old)) d (standing new.judge)) (sym (rejected_is old new cause rejected))
+    (broken_at (is_some old.rejection) (cause_of old.rejection) cause (standing old.judge) (standing new.judge) old.ports.last
+    (ap (λ j. standing j) judge)))
 
 -- a run that rejects a body
-pub body_rejected : (old new : Run) (r : Reading) (text : List ℕ) → samples_of (rows_of old.vcd) r text ≡ BrokenBody
-    → is_some new.rejection ≡ true → new.judge ≡ old.judge → IsDumpJudgedAs (dump_whole old r text) (dump_so_far new) (standing new.judge)
-body_rejected old new r text broken rejected judge =
-    subst (λ d. IsDumpJudgedAs (dump_whole old r text) d (standing new.judge)) (sym (rejected_is new rejected))
-    (broken_at old.judge.options.now (is_some old.rejection) (standing old.judge) (standing new.judge) old.ports.last
-    (samples_of (rows_of old.vcd) r text) broken (ap (λ j. standing j) judge))
+pub body_rejected : (old new : Run) (r : Reading) (text : List ℕ) (flaw : Flaw) → samples_of (rows_of old.vcd) r text ≡ BrokenBody flaw
+    → IsRejectedAs old new (NoDump flaw.line flaw.fault) → new.judge ≡ old.judge
+    → IsDumpJudgedAs (dump_whole old r text) (dump_so_far new) (standing new.judge)
+body_rejected old new r text flaw broken rejected judge =
+    text_broken old new (dump_whole old r text) (NoDump flaw.line flaw.fault)
+    (ap (dump_taken old.judge.options.now (dump_so_far old)) broken) rejected judge
 
 -- a run for one finding that has found nothing, and rejects a dump
 pub rejects_once : (old new : Run) → new.judge ≡ old.judge → EndsOnce old new
@@ -237,13 +269,25 @@ dump_rejected map old new reached bytes goes_on judges stops judge = record {
 }
 
 -- a run that rejects bytes of a body, whatever follows
-pub bytes_rejected : (map : Map) (old new : Run) (r : Reading) (bytes : List ℕ) (result : Result Bool AllocError)
-    → ((rest : List ℕ) → samples_of (rows_of old.vcd) r (bytes ++ rest) ≡ BrokenBody) → IfOk result (λ goes_on. goes_on ≡ false)
-    → IfOk result (λ _. is_some new.rejection ≡ true) → IfOk result (λ _. new.judge ≡ old.judge)
-    → IfOk result (TakesDump map old new (InBody r) bytes)
-bytes_rejected map old new r bytes (Err fault) broken stops rejected judge = tt
-bytes_rejected map old new r bytes (Ok goes_on) broken stops rejected judge =
-    dump_rejected map old new (InBody r) bytes goes_on (λ rest. body_rejected old new r (bytes ++ rest) (broken rest) rejected judge) stops judge
+pub bytes_rejected : (map : Map) (old new : Run) (r : Reading) (bytes : List ℕ) (flaw : Flaw) (line : ℕ) (fault : VcdFault)
+    (result : Result Bool AllocError) → ((rest : List ℕ) → samples_of (rows_of old.vcd) r (bytes ++ rest) ≡ BrokenBody flaw)
+    → IfOk result (λ goes_on. goes_on ≡ false) → IfOk result (λ _. is_some new.rejection ≡ true)
+    → IfOk result (λ _. cause_of new.rejection ≡ (if is_some old.rejection then cause_of old.rejection else NoDump line fault))
+    → line ≡ flaw.line → fault ≡ flaw.fault → IfOk result (λ _. new.judge ≡ old.judge) → IfOk result (TakesDump map old new (InBody r) bytes)
+bytes_rejected map old new r bytes flaw line fault (Err failed) broken stops rejected cause same is judge = tt
+bytes_rejected map old new r bytes flaw line fault (Ok goes_on) broken stops rejected cause same is judge =
+    dump_rejected map old new (InBody r) bytes goes_on
+    (λ rest. body_rejected old new r (bytes ++ rest) flaw (broken rest) (for_cause old new line flaw.line fault flaw.fault rejected cause same is)
+    judge) stops judge
+
+-- a run that rejects a dump at its end
+pub end_rejected : (map : Map) (old new : Run) (reached : Reached) (cause : Cause) → text_whole map old reached [] ≡ broken_off cause (dump_so_far old)
+    → IsRejectedAs old new cause → new.judge ≡ old.judge → EndsDump map old new reached
+end_rejected map old new reached cause is rejected judge = record {
+  judges = text_broken old new (text_whole map old reached []) cause is rejected judge;
+  stays = λ found fell. ap (λ j. standing j) judge ∙ fell;
+  once = rejects_once old new judge;
+}
 
 -- the last of the samples that are left at the end of a text is none
 last_left : (v : VcdReader) (begun : Bool) (s : Shown) (samples : Samples) → v.is_begun ≡ begun → samples_left v ≡ Sample s samples → samples ≡ End
@@ -255,7 +299,7 @@ last_left v false s samples is left = absurd (let none : End ≡ Sample s sample
 -- a run that stops at the first of the last samples
 pub last_stopped : (old new : Run) (step : Step) (samples : Samples) (goes_on : Bool) → step ≡ steps.Sample → ReportsLast samples step old.vcd
     → TakesNext old new (Some (shown_by old.vcd)) goes_on → goes_on ≡ false → TakesLast old new samples
-last_stopped old new step BrokenBody goes_on is last takes off = absurd last
+last_stopped old new step (BrokenBody flaw) goes_on is last takes off = absurd last
 last_stopped old new step End goes_on is last takes off = absurd (let both : steps.Sample ≡ steps.More = sym is ∙ last.0 in cc both)
 last_stopped old new step (Sample s samples) goes_on is last takes off = record {
   dump =
@@ -268,7 +312,7 @@ last_stopped old new step (Sample s samples) goes_on is last takes off = record 
 
 -- no samples are left, if a reader reports none
 none_left : (left : Samples) (next : Step) (v : VcdReader) → ReportsLast left next v → (next ≡ steps.Sample → ⊥) → left ≡ End
-none_left BrokenBody next v last other = absurd last
+none_left (BrokenBody flaw) next v last other = absurd last
 none_left End next v last other = refl
 none_left (Sample t others) next v last other = absurd (other last.0.0)
 
@@ -276,7 +320,7 @@ none_left (Sample t others) next v last other = absurd (other last.0.0)
 pub last_only : (old mid : Run) (v : VcdReader) (step next : Step) (samples : Samples) (on : Bool) → step ≡ steps.Sample
     → ReportsLast samples step old.vcd → TakesNext old mid (Some (shown_by old.vcd)) on → ReportsLast (samples_left mid.vcd) next v
     → (next ≡ steps.Sample → ⊥) → TakesLast old (record mid { vcd = v }) samples
-last_only old mid v step next BrokenBody on is last takes left other = absurd last
+last_only old mid v step next (BrokenBody flaw) on is last takes left other = absurd last
 last_only old mid v step next End on is last takes left other = absurd (let both : steps.Sample ≡ steps.More = sym is ∙ last.0 in cc both)
 last_only old mid v step next (Sample s samples) on is last takes left other = record {
   dump =
@@ -292,7 +336,7 @@ last_only old mid v step next (Sample s samples) on is last takes left other = r
 second_by : (old mid new : Run) (v : VcdReader) (next : Step) (s : Shown) (left samples : Samples) (on goes_on : Bool)
     → next ≡ steps.Sample → samples_left old.vcd ≡ samples → left ≡ samples → ReportsLast left next v → on ≡ true
     → TakesNext old mid (Some s) on → TakesNext (record mid { vcd = v }) new (Some (shown_by v)) goes_on → TakesLast old new (Sample s samples)
-second_by old mid new v next s BrokenBody samples on goes_on is were same last went first second = absurd last
+second_by old mid new v next s (BrokenBody flaw) samples on goes_on is were same last went first second = absurd last
 second_by old mid new v next s End samples on goes_on is were same last went first second =
     absurd (let both : steps.Sample ≡ steps.More = sym is ∙ last.0 in cc both)
 second_by old mid new v next s (Sample t others) samples on goes_on is were same last went first second = record {
@@ -313,18 +357,19 @@ pub last_taken : (old mid new : Run) (v : VcdReader) (step next : Step) (samples
     → ReportsLast samples step old.vcd → TakesNext old mid (Some (shown_by old.vcd)) on → on ≡ true
     → ReportsLast (samples_left mid.vcd) next v → next ≡ steps.Sample
     → TakesNext (record mid { vcd = v }) new (Some (shown_by v)) goes_on → TakesLast old new samples
-last_taken old mid new v step next BrokenBody on goes_on is last first went left then second = absurd last
-last_taken old mid new v step next End on goes_on is last first went left then second =
+last_taken old mid new v step next (BrokenBody flaw) on goes_on is last first went left again second = absurd last
+last_taken old mid new v step next End on goes_on is last first went left again second =
     absurd (let both : steps.Sample ≡ steps.More = sym is ∙ last.0 in cc both)
-last_taken old mid new v step next (Sample s samples) on goes_on is last first went left then second =
-    second_by old mid new v next s (samples_left mid.vcd) samples on goes_on then last.1 (ap samples_left first.reader ∙ last.1) left went
+last_taken old mid new v step next (Sample s samples) on goes_on is last first went left again second =
+    second_by old mid new v next s (samples_left mid.vcd) samples on goes_on again last.1 (ap samples_left first.reader ∙ last.1) left went
     (subst (λ s. TakesNext old mid (Some s) on) (reports_is s step old.vcd last.0) first) second
 
 -- a run that has taken the last samples of a body
-pub ended_as : (old new : Run) (v : VcdReader) (r : Reading) (result : Result (Unit {0}) AllocError)
-    → IfOk result (λ _. TakesLast (record old { vcd = v }) new (samples_of (rows_of old.vcd) r [])) → IfOk result (λ _. EndsDump old new r)
-ended_as old new v r (Err fault) takes = tt
-ended_as old new v r (Ok value) takes = record {
+pub ended_as : (map : Map) (old new : Run) (v : VcdReader) (r : Reading) (result : Result (Unit {0}) AllocError)
+    → IfOk result (λ _. TakesLast (record old { vcd = v }) new (samples_of (rows_of old.vcd) r []))
+    → IfOk result (λ _. EndsDump map old new (InBody r))
+ended_as map old new v r (Err fault) takes = tt
+ended_as map old new v r (Ok value) takes = record {
   judges = inl takes.dump;
   stays = takes.stays;
   once = takes.once;

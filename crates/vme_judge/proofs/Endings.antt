@@ -1,5 +1,5 @@
 -- What is written of a trace, from the run as it ends.
-use Rattle.std.proofs.Common.{◌≡◌, ℕ, Bool, true, false, ◌==◌, ◌||◌, inl, inr, ◌⊎◌, List, eqb-true, Option, Some, None, Result, Ok, Err, OnOk, IfSome, is_some, refl, ap, sym, subst, ◌∙◌}
+use Rattle.std.proofs.Common.{◌≡◌, ℕ, Bool, true, false, ◌==◌, ◌||◌, inl, inr, List, eqb-true, Option, Some, None, Result, Ok, Err, OnOk, IfSome, is_some, refl, ap, sym, subst, ◌∙◌}
 use Rattle.std.specs.Prelude.{not}
 use Rattle.std.specs.Io.KnownBytes.{Appends}
 use Rattle.vme_bus_log.specs.declared.entry.LogDatum.{LogDatum}
@@ -20,16 +20,13 @@ use Rattle.vme_judge.specs.declared.run.Kind.TheVariants as kinds
 use Rattle.vme_judge.specs.declared.run.Run.{Run}
 use Rattle.vme_judge.specs.DumpRuns.{IsDumpJudgedAs, dump_at, dump_so_far}
 use Rattle.vme_judge.specs.Dumps.{DumpSoFar}
-use Rattle.vme_judge.specs.Dumps as dumps
 use Rattle.vme_judge.specs.DumpTexts.{dump_of}
 use Rattle.vme_judge.specs.Endings.{EndsAsDump, EndsAsLog, IsRejectedFor, Prints, PrintsDump, PrintsLog, judged_ending, unless, verdict_printed, writes_ahead}
-use Rattle.vme_judge.specs.Logs.{LogSoFar, so_far}
-use Rattle.vme_judge.specs.Openings.{opening}
+use Rattle.vme_judge.specs.Logs.{Cause, LogSoFar, so_far}
 use Rattle.vme_judge.specs.Standing.{Falls, Standing, found_by, standing, standing_of, state_of, stands}
 use Rattle.vme_judge.specs.Runs.{cause_by, cause_of, IsJudgedAs, IsOnceRun, is_no_dump, run_so_far}
 use Rattle.vme_judge.specs.Verdicts.{is_log, log_of}
-use Rattle.vme_judge.specs.VerdictTexts.{Ending, ending_of, rejection_of, rest_text, verdict_text}
-use Rattle.vme_judge.proofs.DumpPieces.{unjudged}
+use Rattle.vme_judge.specs.VerdictTexts.{Ending, ending_of, rest_text, verdict_text}
 use Rattle.vme_judge.proofs.DumpWholes.{IsDumpRead, IsDumpWhole}
 use Rattle.vme_judge.proofs.Ends.{IsLogRead}
 use Rattle.vme_judge.proofs.Pieces.{IsWhole}
@@ -55,9 +52,10 @@ pub record EndsLike (Ends : Ending → Type 0) (o : Options) (map : Map) (boards
 -- what is rejected is rejected for its cause
 rejected_for : (why : Why) (line : Option ℕ) (e : Ending) → e.rejection ≡ Some (record { why = why; line = line })
     → IsRejectedFor (cause_by why line) e
-rejected_for (whys.Dump fault) line e is = ap is_some is
+rejected_for (whys.Dump fault) None e is = ap is_some is
+rejected_for (whys.Dump fault) (Some line) e is = is
 rejected_for (whys.Log fault) None e is = ap is_some is
-rejected_for (whys.Log fault) (Some line) e is = (fault, is)
+rejected_for (whys.Log fault) (Some line) e is = (fault, refl, is)
 rejected_for (whys.Break why) None e is = ap is_some is
 rejected_for (whys.Break why) (Some line) e is = is
 rejected_for whys.Nothing line e is = ap is_some is
@@ -94,15 +92,15 @@ module _ (o : Options) (map : Map) (boards : List Board) (kind : Kind) (m : Stan
       }
 
 -- the end of a run that has judged a dump and rejected nothing
-dump_like : (o : Options) (map : Map) (boards : List Board) (m : Standing) (ports : List (Option Port)) (finding : Option Finding)
+dump_like : (o : Options) (map : Map) (boards : List Board) (m : Standing) (cause : Cause) (ports : List (Option Port)) (finding : Option Finding)
     → m.once ≡ true
-    → EndsLike (EndsAsDump (dump_at false (found_by finding m) ports)) o map boards (ending_by kinds.Dump None finding m)
-dump_like o map boards m ports None once = record {
+    → EndsLike (EndsAsDump (dump_at false cause (found_by finding m) ports)) o map boards (ending_by kinds.Dump None finding m)
+dump_like o map boards m cause ports None once = record {
   stated = judged_ending kinds.Dump m.presence None m.counts m.transfer;
   ends = refl;
   text = refl;
 }
-dump_like o map boards m ports (Some f) once = record {
+dump_like o map boards m cause ports (Some f) once = record {
   stated = judged_ending kinds.Dump m.presence (Some f) m.counts m.transfer;
   ends = rw once refl;
   text = refl;
@@ -111,34 +109,16 @@ dump_like o map boards m ports (Some f) once = record {
 module _ (o : Options) (map : Map) (boards : List Board) (kind : Kind) (m : Standing) (ports : List (Option Port)) where
   -- the end of a run that was judged for one finding, by whether it rejects the dump
   any_like : (rejection : Option Rejection) (finding : Option Finding) → m.once ≡ true → (rejection ≡ None → kind ≡ kinds.Dump)
-      → EndsLike (EndsAsDump (dump_at (is_some rejection) (found_by finding m) ports)) o map boards
+      → EndsLike (EndsAsDump (dump_at (is_some rejection) (cause_of rejection) (found_by finding m) ports)) o map boards
       (ending_by kind rejection finding m)
   any_like (Some r) finding once is = record {
     stated = ending_by kind (Some r) finding m;
-    ends = refl;
+    ends = rejected_for r.why r.line (ending_by kind (Some r) finding m) refl;
     text = refl;
   }
   any_like None finding once is =
-      subst (λ kind. EndsLike (EndsAsDump (dump_at false (found_by finding m) ports)) o map boards
-      (ending_by kind None finding m)) (sym (is refl)) (dump_like o map boards m ports finding once)
-
-  -- the text of a dump of which nothing is judged is that of one that is rejected since nothing is
-  none_text : m ≡ opening o boards → verdict_text o map boards (ending_by kind None None m)
-      ≡ verdict_text o map boards (record (ending_by kind None None m) { rejection = Some (rejection_of None) })
-  unfolding verdict_text opening
-  none_text is = rw is refl
-
-  -- the end of a dump that ends with its header
-  none_like : (rejection : Option Rejection) (finding : Option Finding)
-      → dump_at (is_some rejection) (found_by finding m) ports ≡ unjudged o boards
-      → EndsLike (EndsAsDump dumps.Broken) o map boards (ending_by kind rejection finding m)
-  none_like (Some r) finding is = absurd (cc is)
-  none_like None (Some f) is = absurd (cc is)
-  none_like None None is = record {
-    stated = record (ending_by kind None None m) { rejection = Some (rejection_of None) };
-    ends = refl;
-    text = none_text (cc is);
-  }
+      subst (λ kind. EndsLike (EndsAsDump (dump_at false (cause_of None) (found_by finding m) ports)) o map boards
+      (ending_by kind None finding m)) (sym (is refl)) (dump_like o map boards m (cause_of None) ports finding once)
 
 -- a log is judged as the run has it, if one finding is asked for
 log_once : (log : LogSoFar) (run : Run) → IsJudgedAs log (run_so_far run) (standing run.judge) → IsOnceRun run → run_so_far run ≡ log
@@ -154,8 +134,8 @@ dump_once : (dump : DumpSoFar) (run : Run) → IsDumpJudgedAs dump (dump_so_far 
     → dump_so_far run ≡ dump
 dump_once dump run (inl same) once = same
 dump_once dump run (inr found) once =
-    ap (λ c. dump_at (is_some run.rejection) c run.ports.last) found.2
-    ∙ ap (λ (r : Option Rejection). dump_at (is_some r) (Falls found.0) run.ports.last)
+    ap (λ c. dump_at (is_some run.rejection) (cause_of run.rejection) c run.ports.last) found.2
+    ∙ ap (λ (r : Option Rejection). dump_at (is_some r) (cause_of r) (Falls found.0) run.ports.last)
     (once.1 (ap stands found.2))
     ∙ sym found.1
 
@@ -177,8 +157,8 @@ module _ (run : Run) (once : IsOnceRun run) where
 
   -- a dump as far as it is judged
   dump_far_once : dump_so_far run
-      ≡ dump_at (is_some run.rejection) (found_by run.judge.finding (state_of run.judge)) run.ports.last
-  dump_far_once = ap (λ c. dump_at (is_some run.rejection) c run.ports.last) course_once
+      ≡ dump_at (is_some run.rejection) (cause_of run.rejection) (found_by run.judge.finding (state_of run.judge)) run.ports.last
+  dump_far_once = ap (λ c. dump_at (is_some run.rejection) (cause_of run.rejection) c run.ports.last) course_once
 
   -- the end of the run
   ending_once : ending_of run ≡ ending_by run.kind run.rejection run.judge.finding (state_of run.judge)
@@ -201,29 +181,15 @@ log_ends o map boards text run whole one =
     (sym (so_far_once run once) ∙ log_once (log_of o boards text) run whole.judged once)
     (log_like o map boards run.kind (state_of run.judge) run.state.last whole.kind run.rejection run.judge.finding (asked_once run once)))
 
--- the end of a run that has judged a whole dump for one finding, by whether it has judged anything of it
-dump_ends_by : (o : Options) (map : Map) (boards : List Board) (text : List ℕ) (run : Run) → IsOnceRun run
-    → (run.rejection ≡ None → run.kind ≡ kinds.Dump)
-    → IsDumpJudgedAs (dump_of o map boards text) (dump_so_far run) (standing run.judge)
-    ⊎ ((dump_of o map boards text ≡ dumps.Broken) × (dump_so_far run ≡ unjudged o boards))
-    → EndsLike (EndsAsDump (dump_of o map boards text)) o map boards (ending_by run.kind run.rejection run.judge.finding (state_of run.judge))
-dump_ends_by o map boards text run once kind (inl judged) =
-    subst (λ dump. EndsLike (EndsAsDump dump) o map boards (ending_by run.kind run.rejection run.judge.finding (state_of run.judge)))
-    (sym (dump_far_once run once) ∙ dump_once (dump_of o map boards text) run judged once)
-    (any_like o map boards run.kind (state_of run.judge) run.ports.last run.rejection run.judge.finding (asked_once run once) kind)
-dump_ends_by o map boards text run once kind (inr none) =
-    subst (λ dump. EndsLike (EndsAsDump dump) o map boards (ending_by run.kind run.rejection run.judge.finding (state_of run.judge)))
-    (sym none.0)
-    (none_like o map boards run.kind (state_of run.judge) run.ports.last run.rejection run.judge.finding
-    (sym (dump_far_once run once) ∙ none.1))
-
 -- the end of a run that has judged a whole dump for one finding
 dump_ends : (o : Options) (map : Map) (boards : List Board) (text : List ℕ) (run : Run) → IsDumpWhole o map boards text run → o.limit ≡ 1
     → EndsLike (EndsAsDump (dump_of o map boards text)) o map boards (ending_of run)
 dump_ends o map boards text run whole one =
     let once = whole.once one in
     subst (EndsLike (EndsAsDump (dump_of o map boards text)) o map boards) (sym (ending_once run once))
-    (dump_ends_by o map boards text run once whole.kind whole.judged)
+    (subst (λ dump. EndsLike (EndsAsDump dump) o map boards (ending_by run.kind run.rejection run.judge.finding (state_of run.judge)))
+    (sym (dump_far_once run once) ∙ dump_once (dump_of o map boards text) run whole.judged once)
+    (any_like o map boards run.kind (state_of run.judge) run.ports.last run.rejection run.judge.finding (asked_once run once) whole.kind))
 
 -- one finding is asked for where nothing is written before the verdict
 one_by : (log one : Bool) → (log || not one) ≡ false → one ≡ true

@@ -1,7 +1,8 @@
 -- A log that is judged while it is read.
-use Rattle.std.proofs.Common.{◌≡◌, ℕ, Bool, true, false, ◌||◌, inl, inr, List, [], ◌∷◌, ◌++◌, append_assoc, append-nil, ◌≢◌, subst, Option, Some, None, is_some, refl, ap, sym, ◌∙◌}
+use Rattle.std.proofs.Common.{◌≡◌, ℕ, Bool, true, false, ◌||◌, inl, inr, List, [], ◌∷◌, ◌++◌, append_assoc, append-nil, ◌≢◌, subst, Option, Result, Ok, Err, is_some, refl, ap, sym, ◌∙◌}
 use Rattle.std.specs.Prelude.{if◌then◌else◌}
 use Rattle.vme_bus_log.specs.declared.entry.LogAccess.{LogAccess}
+use Rattle.vme_bus_log.specs.Faults.{Fault}
 use Rattle.vme_bus_log.specs.Texts.{log_says, Reading, SaysAs}
 use Rattle.vme_bus_log.specs.declared.entry.LogDatum.{LogDatum}
 use Rattle.vme_bus_log.specs.declared.entry.LogEntry.{LogEntry}
@@ -17,17 +18,17 @@ use Rattle.vme_judge.specs.Logs.{Cause, NoLine, LogSoFar, Illegal, Broken, is_br
 use Rattle.vme_judge.specs.Runs.{cause_of, run_so_far, log_whole, IsJudgedAs, IsOver, Judges, StaysFound, TakesLine, JudgesLine}
 
 -- an illegal log stays illegal
-pub stays_illegal : (found : Option Found) (line : ℕ) (lines : List (Option LogEntry)) → log_taken (Illegal found) line lines ≡ Illegal found
+pub stays_illegal : (found : Option Found) (line : ℕ) (lines : List (Result LogEntry Fault)) → log_taken (Illegal found) line lines ≡ Illegal found
 stays_illegal found line [] = refl
 stays_illegal found line (said ∷ lines) = stays_illegal found (one_more line) lines
 
 -- a broken log stays broken
-pub stays_broken : (cause : Cause) (line : ℕ) (lines : List (Option LogEntry)) → log_taken (Broken cause) line lines ≡ Broken cause
+pub stays_broken : (cause : Cause) (line : ℕ) (lines : List (Result LogEntry Fault)) → log_taken (Broken cause) line lines ≡ Broken cause
 stays_broken cause line [] = refl
 stays_broken cause line (said ∷ lines) = stays_broken cause (one_more line) lines
 
 -- a line is taken as the definitions have it, unless the log is not legal before it
-pub takes : (rejected broken : Bool) (was now : Cause) (old new : Course) (last next : Option LogDatum) (line : ℕ) (said : Option LogEntry)
+pub takes : (rejected broken : Bool) (was now : Cause) (old new : Course) (last next : Option LogDatum) (line : ℕ) (said : Result LogEntry Fault)
     → ((m : Standing) → old ≡ Stands m → so_far broken now new next ≡ line_taken line m last said)
     → ((found : Option Found) → old ≡ Falls found → new ≡ Falls found)
     → IsJudgedAs (next_taken (so_far rejected was old last) line said)
@@ -46,7 +47,7 @@ illegal_fell false cause (Falls other) last found is = ap Falls (let same : othe
 illegal_fell false cause (Stands m) last found is = absurd (cc is)
 
 -- a log after a line that was judged, with the lines that are left
-pub lines_left : (log judged : LogSoFar) (c : Course) (line : ℕ) (lines : List (Option LogEntry)) → IsJudgedAs log judged c
+pub lines_left : (log judged : LogSoFar) (c : Course) (line : ℕ) (lines : List (Result LogEntry Fault)) → IsJudgedAs log judged c
     → IsJudgedAs (log_taken log line lines) (log_taken judged line lines) c
 lines_left log judged c line lines (inl same) = inl (ap (λ log. log_taken log line lines) same)
 lines_left log judged c line lines (inr is) =
@@ -62,7 +63,7 @@ judged_on log mid new c n (inl one) (inr two) stays = inr (two.0, sym one ∙ tw
 -- an access, as a line is taken
 pub as_access : (broken : Bool) (cause : Cause) (old new : Course) (last next : Option LogDatum) (line : ℕ) (a : LogAccess)
     → so_far broken cause new next ≡ shown_by last (course_then (access_taken (access_spot line a) a.slot (local_of a)) old)
-    → (m : Standing) → old ≡ Stands m → so_far broken cause new next ≡ line_taken line m last (Some (entries.Access a))
+    → (m : Standing) → old ≡ Stands m → so_far broken cause new next ≡ line_taken line m last (Ok (entries.Access a))
 as_access broken cause old new last next line a taken m is =
     taken ∙ ap (λ c. shown_by last (course_then (access_taken (access_spot line a) a.slot (local_of a)) c)) is
 
@@ -80,7 +81,7 @@ judged_same log a b c n (inl same) is now = inl (sym is ∙ same)
 judged_same log a b c n (inr fell) is now = inr (fell.0, fell.1, sym now ∙ fell.2)
 
 -- a run that has taken a line
-pub line_is_taken : (old new : Run) (mid : Judge) (state : LogState) (broken : Bool) (cause : Cause) (line : ℕ) (said : Option LogEntry)
+pub line_is_taken : (old new : Run) (mid : Judge) (state : LogState) (broken : Bool) (cause : Cause) (line : ℕ) (said : Result LogEntry Fault)
     → new.judge ≡ mid → new.state ≡ state → is_some new.rejection ≡ (broken || is_some old.rejection)
     → cause_of new.rejection ≡ (if is_some old.rejection then cause_of old.rejection else cause)
     → ((m : Standing) → standing old.judge ≡ Stands m → so_far broken cause (standing mid) state.last ≡ line_taken line m old.state.last said)
@@ -118,11 +119,11 @@ is_over_rejected new rejected =
     over_rejected (is_some new.rejection) (cause_of new.rejection) (standing new.judge) new.state.last rejected
 
 -- a run that has rejected a line that is none of a log
-pub line_is_refused : (old new : Run) (line : ℕ) → is_some new.rejection ≡ true
-    → cause_of new.rejection ≡ (if is_some old.rejection then cause_of old.rejection else NoLine line) → new.judge ≡ old.judge
-    → new.state ≡ old.state → TakesLine old new line None
-line_is_refused old new line rejected why judge state =
-    line_is_taken old new old.judge old.state true (NoLine line) line None judge state rejected why (λ m is. refl) (λ found fell. fell)
+pub line_is_refused : (old new : Run) (line : ℕ) (fault : Fault) → is_some new.rejection ≡ true
+    → cause_of new.rejection ≡ (if is_some old.rejection then cause_of old.rejection else NoLine line fault) → new.judge ≡ old.judge
+    → new.state ≡ old.state → TakesLine old new line (Err fault)
+line_is_refused old new line fault rejected why judge state =
+    line_is_taken old new old.judge old.state true (NoLine line fault) line (Err fault) judge state rejected why (λ m is. refl) (λ found fell. fell)
 
 -- a run whose line was not taken as legal is over
 pub is_over : (new : Run) (mid : Judge) (taken : Taken) (rejected : Bool) → new.judge ≡ mid
@@ -172,7 +173,7 @@ judges_kept old mid new read bytes left judges same stands log says number = λ 
     (sym stands)
 
 -- a run that has judged the rest of a line
-pub line_pushed : (old mid new : Run) (read : Reading) (line : List ℕ) (said : Option LogEntry) → run_so_far mid ≡ run_so_far old
+pub line_pushed : (old mid new : Run) (read : Reading) (line : List ℕ) (said : Result LogEntry Fault) → run_so_far mid ≡ run_so_far old
     → TakesLine mid new old.log.number said → new.log ≡ read
     → ((rest : List ℕ) → log_says (old.log.line ++ (line ++ 10 ∷ rest)) ≡ said ∷ log_says rest)
     → read ≡ record { line = []; number = one_more old.log.number } → JudgesLine old new line
@@ -189,18 +190,18 @@ line_pushed old mid new read line said same taken log ends next = λ rest.
     left refl
 
 -- a run that has rejected the rest of a line
-pub line_refused : (old new : Run) (line : List ℕ) → TakesLine old new old.log.number None → IsOver (run_so_far new)
-    → ((rest : List ℕ) → log_says (old.log.line ++ (line ++ 10 ∷ rest)) ≡ None ∷ log_says rest) → JudgesLine old new line
-line_refused old new line taken over ends = λ rest.
+pub line_refused : (old new : Run) (line : List ℕ) (fault : Fault) → TakesLine old new old.log.number (Err fault) → IsOver (run_so_far new)
+    → ((rest : List ℕ) → log_says (old.log.line ++ (line ++ 10 ∷ rest)) ≡ Err fault ∷ log_says rest) → JudgesLine old new line
+line_refused old new line fault taken over ends = λ rest.
     judged_same _ _ _ _ _
     (subst (λ before. IsJudgedAs before (log_taken (run_so_far new) (one_more old.log.number) (log_says rest)) (standing new.judge))
     (sym (ap (log_taken (run_so_far old) old.log.number) (ends rest)))
-    (lines_left (next_taken (run_so_far old) old.log.number None) (run_so_far new) (standing new.judge) (one_more old.log.number)
+    (lines_left (next_taken (run_so_far old) old.log.number (Err fault)) (run_so_far new) (standing new.judge) (one_more old.log.number)
     (log_says rest) taken))
     (over (one_more old.log.number) (log_says rest) ∙ sym (over new.log.number (log_says (new.log.line ++ rest)))) refl
 
 -- a run that has judged the line with which a log ends
-pub ended_taken : (old mid new : Run) (said : Option LogEntry) → run_so_far mid ≡ run_so_far old → TakesLine mid new old.log.number said
+pub ended_taken : (old mid new : Run) (said : Result LogEntry Fault) → run_so_far mid ≡ run_so_far old → TakesLine mid new old.log.number said
     → log_says old.log.line ≡ said ∷ [] → IsJudgedAs (log_whole old []) (run_so_far new) (standing new.judge)
 ended_taken old mid new said same taken says =
     subst (λ log. IsJudgedAs log (run_so_far new) (standing new.judge))

@@ -1,6 +1,7 @@
 -- The blanks before a trace, which are lines of a log and nothing of a dump.
-use Rattle.std.specs.Prelude.{◌≡◌, ℕ, Bool, true, false, if◌then◌else◌, List, [], ◌∷◌, ◌++◌, length, is_some}
+use Rattle.std.specs.Prelude.{◌≡◌, ℕ, Bool, true, false, if◌then◌else◌, List, [], ◌∷◌, ◌++◌, length, Some, is_some}
 use Rattle.vme_line_map.specs.Variables.{Map}
+use Rattle.vme_bus_log.specs.Faults.{TooLong}
 use Rattle.vme_bus_log.specs.Texts.{EndsNoLine, Reading, SaysAs}
 use Rattle.vme_vcd_reader.specs.declared.reader.VcdReader.{VcdReader}
 use Rattle.vme_vcd_reader.specs.Bodies.{line_after}
@@ -9,9 +10,10 @@ use Rattle.vme_vcd_reader.specs.Readers.{IsHeader}
 use Rattle.vme_judge.specs.declared.run.Kind.TheVariants as kinds
 use Rattle.vme_judge.specs.declared.run.Run.{Run}
 use Rattle.vme_judge.specs.DumpRuns.{DumpStays, InHeader, HasReached, IsDumpJudgedAs, IsUnjudged, Reached, dump_so_far, text_whole}
-use Rattle.vme_judge.specs.Dumps.{DumpSoFar, Broken}
-use Rattle.vme_judge.specs.DumpTexts.{has_long_blanks}
-use Rattle.vme_judge.specs.Runs.{form_after, RunsOnce}
+use Rattle.vme_judge.specs.Dumps.{DumpSoFar}
+use Rattle.vme_judge.specs.DumpTexts.{after_blanks, long_blanks}
+use Rattle.vme_judge.specs.Logs.{NoLine}
+use Rattle.vme_judge.specs.Runs.{cause_of, form_after, RunsOnce}
 use Rattle.vme_judge.specs.Standing.{standing}
 
 -- all bytes are blanks: the form of a trace that begins with them is not known yet
@@ -29,19 +31,22 @@ pub record ReadsBlanks (line : List ℕ) (old new : Run) (bytes : List ℕ) : Ty
   pub rejection : new.rejection ≡ old.rejection
   pub after : List ℕ
   pub begin : IsBlankLine after new.log
-  pub lines : (rest : List ℕ) → has_long_blanks (length line) (bytes ++ rest) ≡ has_long_blanks (length after) rest
+  pub lines : (rest : List ℕ)
+      → long_blanks (length line) old.log.number (bytes ++ rest) ≡ long_blanks (length after) new.log.number rest
 
--- a run has rejected blanks: a line of them is too long
-pub record RejectsBlanks (line : List ℕ) (new : Run) (bytes : List ℕ) : Type 0 where
+-- a run has rejected blanks, unless it has rejected its text before: a line of them is too long
+pub record RejectsBlanks (line : List ℕ) (old new : Run) (bytes : List ℕ) : Type 0 where
   pub rejected : is_some new.rejection ≡ true
-  pub lines : (rest : List ℕ) → has_long_blanks (length line) (bytes ++ rest) ≡ true
+  pub number : ℕ
+  pub cause : cause_of new.rejection ≡ (if is_some old.rejection then cause_of old.rejection else NoLine number TooLong)
+  pub lines : (rest : List ℕ) → long_blanks (length line) old.log.number (bytes ++ rest) ≡ Some number
 
 -- a run has taken blanks after those of a line: it reads on, or has rejected them
 pub record TakesBlanks (line : List ℕ) (old new : Run) (bytes : List ℕ) (goes_on : Bool) : Type 0 where
   pub judge : new.judge ≡ old.judge
   pub ports : new.ports ≡ old.ports
   pub reads : goes_on ≡ true → ReadsBlanks line old new bytes
-  pub stops : goes_on ≡ false → RejectsBlanks line new bytes
+  pub stops : goes_on ≡ false → RejectsBlanks line old new bytes
 
 -- a reader is before the first byte of a dump
 abbrev pub IsAtStart : Map → VcdReader → Type 0
@@ -66,7 +71,8 @@ pub record SkipsBlanks (map : Map) (line : List ℕ) (old new : Run) (bytes : Li
 -- the whole dump, if blanks of a line are read and this text is left
 abbrev pub blanks_whole : Map → List ℕ → Run → List ℕ → DumpSoFar
 blanks_whole map line run rest =
-    if has_long_blanks (length line) rest then Broken else text_whole map run (InHeader beginning []) rest
+    after_blanks (long_blanks (length line) run.log.number rest) (dump_so_far run)
+    (text_whole map run (InHeader beginning []) rest)
 
 -- a run has judged the first bytes of a dump, after blanks of a line, and reads on
 pub record ReadsFirst (map : Map) (line : List ℕ) (old new : Run) (bytes : List ℕ) : Type 0 where

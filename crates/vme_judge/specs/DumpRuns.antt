@@ -3,17 +3,19 @@ use Rattle.std.specs.Prelude.{◌≡◌, ℕ, Bool, true, false, ◌⊎◌, List
 use Rattle.vme_line_map.specs.Variables.{Map}
 use Rattle.vme_protocol.specs.declared.port.Port.{Port}
 use Rattle.vme_vcd_reader.specs.declared.reader.VcdReader.{VcdReader}
-use Rattle.vme_vcd_reader.specs.Bodies.{Reading, Samples, Shown, samples_of}
+use Rattle.vme_vcd_reader.specs.Bodies.{Reading, Shown}
 use Rattle.vme_vcd_reader.specs.Headers.{Heading, Goes}
 use Rattle.vme_vcd_reader.specs.Mapping.{Declaration}
 use Rattle.vme_vcd_reader.specs.Readers.{IsHeader, IsReading, rows_of}
+use Rattle.vme_vcd_reader.specs.Samples.{Samples, samples_of}
 use Rattle.vme_judge.specs.declared.judge.Judge.{Judge}
 use Rattle.vme_judge.specs.declared.options.Options.{Options}
 use Rattle.vme_judge.specs.declared.run.Kind.TheVariants as kinds
 use Rattle.vme_judge.specs.declared.run.Run.{Run}
 use Rattle.vme_judge.specs.Dumps.{DumpSoFar, Illegal, Broken, dump_by, dump_taken, next_shown, with_presence}
 use Rattle.vme_judge.specs.DumpTexts.{header_judged}
-use Rattle.vme_judge.specs.Runs.{IsGoing, IsOnceRun, RunsOnce}
+use Rattle.vme_judge.specs.Logs.{Cause}
+use Rattle.vme_judge.specs.Runs.{IsGoing, IsOnceRun, RunsOnce, cause_of}
 use Rattle.vme_judge.specs.Standing.{Course, Falls, Found, HasFallen, IsStanding, Standing, course_map, course_then, standing, IsOnce}
 
 -- a judgement for one finding stays one, and if it goes on, it has found nothing
@@ -44,14 +46,14 @@ pub record TakesShown (old new : Judge) (last next : List (Option Port)) (shown 
   pub options : new.options ≡ old.options
   pub once : JudgesOnce old new goes_on
 
--- a dump by whether it is rejected, its course and what is remembered of its local ports
-abbrev pub dump_at : Bool → Course → List (Option Port) → DumpSoFar
-dump_at true c ports = Broken
-dump_at false c ports = dump_by c ports
+-- a dump by whether it is rejected, and why, its course and what is remembered of its local ports
+abbrev pub dump_at : Bool → Cause → Course → List (Option Port) → DumpSoFar
+dump_at true cause c ports = Broken cause
+dump_at false cause c ports = dump_by c ports
 
 -- a dump as far as a run has judged it
 abbrev pub dump_so_far : Run → DumpSoFar
-dump_so_far r = dump_at (is_some r.rejection) (standing r.judge) r.ports.last
+dump_so_far r = dump_at (is_some r.rejection) (cause_of r.rejection) (standing r.judge) r.ports.last
 
 -- what was found in a dump stays found
 abbrev pub DumpStays : Run → Run → Type 0
@@ -74,7 +76,7 @@ HasReached map (InBody r) v = IsReading r v
 -- the whole dump, if this text is left to read
 abbrev pub text_whole : Map → Run → Reached → List ℕ → DumpSoFar
 text_whole map run (InHeader h ds) rest =
-    header_judged run.judge.options.now map (dump_so_far run) ds (Goes h) run.vcd.line rest
+    header_judged run.judge.options.now map (dump_so_far run) ds (Goes h) run.vcd.line run.vcd.line rest
 text_whole map run (InBody r) rest = dump_whole run r rest
 
 -- a run that is within the header of a dump has judged nothing of it
@@ -142,15 +144,9 @@ pub record TakesLast (old new : Run) (samples : Samples) : Type 0 where
   pub stays : DumpStays old new
   pub once : EndsOnce old new
 
--- a run has judged a body that ends here
-pub record EndsDump (old new : Run) (r : Reading) : Type 0 where
-  pub judges : IsDumpJudgedAs (dump_whole old r []) (dump_so_far new) (standing new.judge)
-  pub stays : DumpStays old new
-  pub once : EndsOnce old new
-
--- a run has judged a dump that ends within its header: it has no sample, if it is one
-pub record EndsHeader (old new : Run) : Type 0 where
-  pub dump : (dump_so_far new ≡ dump_so_far old) ⊎ (dump_so_far new ≡ Broken)
+-- a run has judged a dump that ends here
+pub record EndsDump (map : Map) (old new : Run) (reached : Reached) : Type 0 where
+  pub judges : JudgesDump map old new reached []
   pub stays : DumpStays old new
   pub once : EndsOnce old new
 

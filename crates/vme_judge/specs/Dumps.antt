@@ -8,9 +8,10 @@ use Rattle.vme_protocol.specs.Ports.{local_between}
 use Rattle.vme_vcd_reader.specs.declared.bus.BusLines.{BusLines}
 use Rattle.vme_vcd_reader.specs.declared.control.ControlLine.{ControlLine}
 use Rattle.vme_vcd_reader.specs.declared.presence.Presence.{Presence}
-use Rattle.vme_vcd_reader.specs.Bodies.{Shown, Samples, Sample, End, Broken as BrokenBody}
+use Rattle.vme_vcd_reader.specs.Bodies.{Shown}
 use Rattle.vme_vcd_reader.specs.Buses.{port_of, sample_of, with_slot}
 use Rattle.vme_vcd_reader.specs.ControlLines.{undefined_line}
+use Rattle.vme_vcd_reader.specs.Samples.{Samples, Sample, End, Broken as BrokenBody}
 use Rattle.vme_judge.specs.declared.boards.Board.{Board}
 use Rattle.vme_judge.specs.declared.fault.Status.{Status}
 use Rattle.vme_judge.specs.declared.fault.Status.TheVariants as statuses
@@ -19,7 +20,7 @@ use Rattle.vme_judge.specs.declared.finding.Finding.{Finding}
 use Rattle.vme_judge.specs.declared.judge.Spot.{Spot}
 use Rattle.vme_judge.specs.declared.options.Options.{Options}
 use Rattle.vme_judge.specs.declared.transfer.OpenTransfer.{OpenTransfer}
-use Rattle.vme_judge.specs.Logs.{access_taken}
+use Rattle.vme_judge.specs.Logs.{Cause, NoDump, access_taken}
 use Rattle.vme_judge.specs.Seen.{has_counted, one_more}
 use Rattle.vme_judge.specs.Standing.{Course, Falls, Found, Standing, Stands, course_then, found_at, sample_taken}
 
@@ -100,17 +101,17 @@ ports_after lines changed place (last ∷ ports) =
     (if is_among changed place then Some (port_at lines place) else last) ∷ ports_after lines changed (place + 1) ports
 
 -- a dump so far: legal, with what is remembered of it and what each local port has shown; illegal, once a sample or a port
--- is, with what is found, if one finding is asked for; or broken, once its text is no body of a dump
+-- is, with what is found, if one finding is asked for; or broken, once its text is none of a dump
 pub data DumpSoFar : Type 0 where
   Legal : Standing → List (Option Port) → DumpSoFar
   Illegal : Option Found → DumpSoFar
-  Broken : DumpSoFar
+  Broken : Cause → DumpSoFar
 
 -- whether a dump is illegal
 abbrev pub is_illegal : DumpSoFar → Bool
 is_illegal (Legal m ports) = false
 is_illegal (Illegal found) = true
-is_illegal Broken = false
+is_illegal (Broken cause) = false
 
 -- a dump by its course, and what each local port has shown
 abbrev pub dump_by : Course → List (Option Port) → DumpSoFar
@@ -149,22 +150,22 @@ legal_next o s m ports =
 abbrev pub next_shown : Options → Shown → DumpSoFar → DumpSoFar
 next_shown o s (Legal m ports) = legal_next o s m ports
 next_shown o s (Illegal found) = Illegal found
-next_shown o s Broken = Broken
+next_shown o s (Broken cause) = Broken cause
 
--- a dump whose text ends here, since it is no body of a dump
-abbrev pub broken_off : DumpSoFar → DumpSoFar
-broken_off (Legal m ports) = Broken
-broken_off (Illegal found) = Illegal found
-broken_off Broken = Broken
+-- a dump whose text is none of a dump from here on, for a cause
+abbrev pub broken_off : Cause → DumpSoFar → DumpSoFar
+broken_off cause (Legal m ports) = Broken cause
+broken_off cause (Illegal found) = Illegal found
+broken_off cause (Broken before) = Broken before
 
 -- a dump after samples
 abbrev pub dump_taken : Options → DumpSoFar → Samples → DumpSoFar
 dump_taken o d End = d
-dump_taken o d BrokenBody = broken_off d
+dump_taken o d (BrokenBody flaw) = broken_off (NoDump flaw.line flaw.fault) d
 dump_taken o d (Sample s samples) = dump_taken o (next_shown o s d) samples
 
 -- the verdict on a dump: it is rejected too if there is neither a datum nor a local access that is judged
 abbrev pub dump_status : DumpSoFar → Status
 dump_status (Legal m ports) = if has_counted m.counts then statuses.Legal else statuses.Rejected
 dump_status (Illegal found) = statuses.Illegal
-dump_status Broken = statuses.Rejected
+dump_status (Broken cause) = statuses.Rejected

@@ -2,6 +2,7 @@
 use Rattle.std.specs.Prelude.{◌≡◌, ℕ, Bool, not, ◌==◌, ◌||◌, if◌then◌else◌, List, [], Option, Some, None, IsSome, is_some}
 use Rattle.std.specs.Io.KnownBytes.{Appends}
 use Rattle.vme_bus_log.specs.declared.fault.LogFault.{LogFault}
+use Rattle.vme_bus_log.specs.Faults.{reported}
 use Rattle.vme_line_map.specs.Variables.{Map}
 use Rattle.vme_vcd_reader.specs.declared.presence.Presence.{Presence}
 use Rattle.vme_vcd_reader.specs.Presences.{no_lines}
@@ -16,7 +17,7 @@ use Rattle.vme_judge.specs.declared.transfer.OpenTransfer.{OpenTransfer}
 use Rattle.vme_judge.specs.Dumps.{DumpSoFar}
 use Rattle.vme_judge.specs.Dumps as dumps
 use Rattle.vme_judge.specs.DumpTexts.{dump_of}
-use Rattle.vme_judge.specs.Logs.{Cause, NoLine, Break, Other, LogSoFar}
+use Rattle.vme_judge.specs.Logs.{Cause, NoLine, Break, NoDump, Other, LogSoFar}
 use Rattle.vme_judge.specs.Logs as logs
 use Rattle.vme_judge.specs.Verdicts.{log_of}
 use Rattle.vme_judge.specs.VerdictTexts.{Ending, verdict_text}
@@ -46,10 +47,12 @@ judged_ending kind presence finding counts transfer = record {
   is_within = is_some transfer;
 }
 
--- a text is rejected for a cause; which fault a line has that is none of a log is not stated
+-- a text is rejected for a cause
 abbrev pub IsRejectedFor : Cause → Ending → Type 0
-IsRejectedFor (NoLine line) e = (fault : LogFault) × (e.rejection ≡ Some (record { why = whys.Log fault; line = Some line }))
+IsRejectedFor (NoLine line wrong) e =
+    (fault : LogFault) × (reported fault ≡ wrong) × (e.rejection ≡ Some (record { why = whys.Log fault; line = Some line }))
 IsRejectedFor (Break line why) e = e.rejection ≡ Some (record { why = whys.Break why; line = Some line })
+IsRejectedFor (NoDump line fault) e = e.rejection ≡ Some (record { why = whys.Dump fault; line = Some line })
 IsRejectedFor Other e = IsSome e.rejection
 
 -- a log, of which one finding is asked for, ends so: with what was seen, with what is found, or rejected for a cause
@@ -59,12 +62,12 @@ EndsAsLog (logs.Illegal None) e = ⊥
 EndsAsLog (logs.Illegal (Some f)) e = e ≡ judged_ending kinds.Log no_lines (Some f.finding) f.counts f.transfer
 EndsAsLog (logs.Broken cause) e = IsRejectedFor cause e
 
--- a dump, of which one finding is asked for, ends so, with the lines that its header has
+-- a dump, of which one finding is asked for, ends so, with the lines that its header has, or rejected for a cause
 abbrev pub EndsAsDump : DumpSoFar → Ending → Type 0
 EndsAsDump (dumps.Legal m ports) e = e ≡ judged_ending kinds.Dump m.presence None m.counts m.transfer
 EndsAsDump (dumps.Illegal None) e = ⊥
 EndsAsDump (dumps.Illegal (Some f)) e = e ≡ judged_ending kinds.Dump f.presence (Some f.finding) f.counts f.transfer
-EndsAsDump dumps.Broken e = IsSome e.rejection
+EndsAsDump (dumps.Broken cause) e = IsRejectedFor cause e
 
 -- after known bytes the verdict of a trace that ends so is written, and nothing else
 abbrev pub Prints : (Ending → Type 0) → Options → Map → List Board → Option (List ℕ) → Option (List ℕ) → Type 0

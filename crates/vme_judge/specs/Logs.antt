@@ -7,10 +7,12 @@ use Rattle.vme_protocol.specs.declared.rule.Rule.{Rule}
 use Rattle.vme_answers.specs.declared.wrong.Wrong.{Wrong}
 use Rattle.vme_answers.specs.Taking.{Judged, local_taken}
 use Rattle.vme_answers.specs.Wrongs.{local_wrong_of}
+use Rattle.vme_bus_log.specs.Faults.{Fault}
 use Rattle.vme_bus_log.specs.declared.entry.LogAccess.{LogAccess}
 use Rattle.vme_bus_log.specs.declared.entry.LogDatum.{LogDatum}
 use Rattle.vme_bus_log.specs.declared.entry.LogEntry.{LogEntry}
 use Rattle.vme_bus_log.specs.declared.entry.LogEntry.TheVariants as entries
+use Rattle.vme_vcd_reader.specs.declared.fault.VcdFault.{VcdFault}
 use Rattle.vme_judge.specs.declared.fault.Status.{Status}
 use Rattle.vme_judge.specs.declared.fault.Status.TheVariants as statuses
 use Rattle.vme_judge.specs.declared.finding.Asked.TheVariants as askeds
@@ -26,11 +28,12 @@ use Rattle.vme_judge.specs.Samples.{address_samples, datum_samples, fall_samples
 use Rattle.vme_judge.specs.Seen.{has_counted, one_more, without_start}
 use Rattle.vme_judge.specs.Standing.{Course, Falls, Found, Standing, Stands, course_map, course_then, found_at, samples_taken}
 
--- why a text is rejected: the line with a number is none of a log, or does not go on from the line before; or for no line of a
--- log
+-- why a text is rejected: the line with a number is none of a log, does not go on from the line before, or is none of a dump, and
+-- why; or for no line
 pub data Cause : Type 0 where
-  NoLine : ℕ → Cause
+  NoLine : ℕ → Fault → Cause
   Break : ℕ → LogBreak → Cause
+  NoDump : ℕ → VcdFault → Cause
   Other : Cause
 
 -- a log so far: legal, with what is remembered of it and the datum before, if its transfer may go on; illegal, once a line
@@ -156,21 +159,21 @@ access_taken spot slot a m =
 abbrev pub access_spot : ℕ → LogAccess → Spot
 access_spot line a = record { line = line; time = a.time }
 
--- a line of a log after the lines before; a line that says nothing is none of a log
-abbrev pub line_taken : ℕ → Standing → Option LogDatum → Option LogEntry → LogSoFar
-line_taken line m last None = Broken (NoLine line)
-line_taken line m last (Some entries.Nothing) = Legal m last
-line_taken line m last (Some (entries.Datum d)) = datum_taken line m last d
-line_taken line m last (Some (entries.Access a)) = shown_by last (access_taken (access_spot line a) a.slot (local_of a) m)
+-- a line of a log after the lines before, which may be none of a log
+abbrev pub line_taken : ℕ → Standing → Option LogDatum → Result LogEntry Fault → LogSoFar
+line_taken line m last (Err fault) = Broken (NoLine line fault)
+line_taken line m last (Ok entries.Nothing) = Legal m last
+line_taken line m last (Ok (entries.Datum d)) = datum_taken line m last d
+line_taken line m last (Ok (entries.Access a)) = shown_by last (access_taken (access_spot line a) a.slot (local_of a) m)
 
 -- a log after the line with a number; after a line that is not legal nothing is judged
-abbrev pub next_taken : LogSoFar → ℕ → Option LogEntry → LogSoFar
+abbrev pub next_taken : LogSoFar → ℕ → Result LogEntry Fault → LogSoFar
 next_taken (Legal m last) line said = line_taken line m last said
 next_taken (Illegal found) line said = Illegal found
 next_taken (Broken cause) line said = Broken cause
 
 -- a log after lines of which the first has a number
-abbrev pub log_taken : LogSoFar → ℕ → List (Option LogEntry) → LogSoFar
+abbrev pub log_taken : LogSoFar → ℕ → List (Result LogEntry Fault) → LogSoFar
 log_taken log line [] = log
 log_taken log line (said ∷ lines) = log_taken (next_taken log line said) (one_more line) lines
 

@@ -1,6 +1,7 @@
 -- A log that is judged while it is read.
-use Rattle.std.specs.Prelude.{◌≡◌, ℕ, Bool, true, false, ◌==◌, if◌then◌else◌, ◌⊎◌, List, [], ◌∷◌, ◌++◌, Option, Some, None, is_some}
+use Rattle.std.specs.Prelude.{◌≡◌, ℕ, Bool, true, false, ◌==◌, if◌then◌else◌, ◌⊎◌, List, [], ◌∷◌, ◌++◌, Option, Some, None, Result, is_some}
 use Rattle.vme_bus_log.specs.declared.entry.LogEntry.{LogEntry}
+use Rattle.vme_bus_log.specs.Faults.{Fault, reported}
 use Rattle.vme_bus_log.specs.Texts.{log_says}
 use Rattle.vme_judge.specs.declared.run.Kind.{Kind}
 use Rattle.vme_judge.specs.declared.run.Kind.TheVariants as kinds
@@ -9,7 +10,7 @@ use Rattle.vme_judge.specs.Standing.{Course, Falls, Found, HasFallen, IsStanding
 use Rattle.vme_judge.specs.declared.rejection.Rejection.{Rejection}
 use Rattle.vme_judge.specs.declared.rejection.Why.{Why}
 use Rattle.vme_judge.specs.declared.rejection.Why.TheVariants as whys
-use Rattle.vme_judge.specs.Logs.{Cause, NoLine, Break, Other, LogSoFar, Illegal, so_far, log_taken, next_taken}
+use Rattle.vme_judge.specs.Logs.{Cause, NoLine, Break, NoDump, Other, LogSoFar, Illegal, so_far, log_taken, next_taken}
 use Rattle.vme_judge.specs.Verdicts.{is_space}
 
 -- the form of a trace after some bytes: by the first one that is no blank
@@ -26,10 +27,11 @@ is_no_dump kinds.Dump = false
 is_no_dump kinds.Log = true
 is_no_dump kinds.Unknown = true
 
--- why a line of a log is rejected
+-- why a line of a text is rejected
 abbrev pub cause_by : Why → Option ℕ → Cause
-cause_by (whys.Log fault) (Some line) = NoLine line
+cause_by (whys.Log fault) (Some line) = NoLine line (reported fault)
 cause_by (whys.Break why) (Some line) = Break line why
+cause_by (whys.Dump fault) (Some line) = NoDump line fault
 cause_by why line = Other
 
 -- why a text is rejected, if it is
@@ -55,7 +57,7 @@ IsJudgedAs log judged c = (judged ≡ log) ⊎ IsIllegal log c
 
 -- a log of which no further line is judged
 abbrev pub IsOver : LogSoFar → Type 0
-IsOver log = (line : ℕ) (lines : List (Option LogEntry)) → log_taken log line lines ≡ log
+IsOver log = (line : ℕ) (lines : List (Result LogEntry Fault)) → log_taken log line lines ≡ log
 
 -- a run has judged these bytes of a log
 abbrev pub Judges : Run → Run → List ℕ → Type 0
@@ -68,7 +70,7 @@ JudgesLine old new line =
     (rest : List ℕ) → IsJudgedAs (log_whole old (line ++ 10 ∷ rest)) (log_whole new rest) (standing new.judge)
 
 -- a run has judged the line of a log with a number
-abbrev pub TakesLine : Run → Run → ℕ → Option LogEntry → Type 0
+abbrev pub TakesLine : Run → Run → ℕ → Result LogEntry Fault → Type 0
 TakesLine old new line said = IsJudgedAs (next_taken (run_so_far old) line said) (run_so_far new) (standing new.judge)
 
 -- what was found stays found

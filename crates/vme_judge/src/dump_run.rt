@@ -1,19 +1,19 @@
 //! A dump, byte by byte.
-ghost use Rattle.std.specs.Prelude.{◌≡◌, ◌≢◌, ℕ, [], ◌∷◌, ◌++◌, List, slice_get, true, false, is_some, Some, IfOk, Option};
+ghost use Rattle.std.specs.Prelude.{◌≡◌, ◌≢◌, ℕ, [], ◌∷◌, ◌++◌, List, slice_get, true, false, is_some, Some, IfOk, Option, if◌then◌else◌};
 ghost use Rattle.vme_line_map.specs.Variables.{Map};
 ghost use Rattle.vme_vcd_reader.specs.declared.fault.VcdFault.TheVariants.{Memory};
 ghost use Rattle.vme_vcd_reader.specs.declared.reader.Step.TheVariants as steps;
-ghost use Rattle.vme_vcd_reader.specs.Bodies.{Reading, Samples, Shown};
-ghost use Rattle.vme_vcd_reader.specs.Headers.{Heading};
-ghost use Rattle.vme_vcd_reader.specs.Mapping.{Declaration};
-ghost use Rattle.vme_vcd_reader.specs.Readers.{IsHeader, IsReading, ReportsLast, ReportsSample};
+ghost use Rattle.vme_vcd_reader.specs.Bodies.{Shown};
+ghost use Rattle.vme_vcd_reader.specs.Readers.{ReportsLast, ReportsSample};
+ghost use Rattle.vme_vcd_reader.specs.Samples.{Samples};
 ghost use Rattle.vme_judge.specs.declared.run.Kind.TheVariants.{Dump, Unknown};
 ghost use Rattle.vme_judge.specs.Blanks.{AreBlanks, BeginsDump, IsBlankSoFar};
-ghost use Rattle.vme_judge.specs.DumpRuns.{shown_by, BeginsBody, EndsDump, EndsHeader, HasReached, Reached, TakesDump, TakesLast, TakesNext};
-ghost use Rattle.vme_judge.specs.Runs.{form_after};
+ghost use Rattle.vme_judge.specs.DumpRuns.{shown_by, BeginsBody, EndsDump, HasReached, Reached, TakesDump, TakesLast, TakesNext};
+ghost use Rattle.vme_judge.specs.Logs.{NoDump};
+ghost use Rattle.vme_judge.specs.Runs.{cause_of, form_after};
 
 use crate::dump::{set_scope, take_sample};
-use crate::rejection::{Rejection, Why};
+use crate::rejection::Why;
 use crate::run::{Run, is_space};
 use std::alloc::AllocError;
 use vme_vcd_reader::{Step, VcdFault};
@@ -102,29 +102,28 @@ impl Run<'_> {
         take_sample(&mut self.judge, &mut self.ports, &self.vcd)
     }
 
-    /// Rejects a dump.
+    /// Rejects a dump, unless it was rejected before.
     fn reject_dump(&mut self, fault: VcdFault) -> Result<bool, AllocError>
         ensures stops { IfOk result (λ goes_on. goes_on ≡ false) }
         ensures rejected { IfOk result (λ _. is_some self.new.rejection ≡ true) }
         ensures judge { IfOk result (λ _. self.new.judge ≡ self.old.judge) }
         ensures why { IfOk result (λ _. fault ≢ Memory) }
+        ensures cause { IfOk result (λ _. cause_of self.new.rejection
+            ≡ (if is_some self.old.rejection then cause_of self.old.rejection else NoDump self.old.vcd.line fault)) }
         ensures kind { IfOk result (λ _. self.new.kind ≡ self.old.kind) }
     {
         if fault == VcdFault::Memory {
             return Err(AllocError);
         }
-        self.rejection = Some(Rejection {
-            why: Why::Dump(fault),
-            line: Some(self.vcd.line()),
-        });
+        let line = self.vcd.line();
+        self.reject(Why::Dump(fault), line);
         Ok(false)
     }
 
     /// Ends a dump, whose last two times may still be open.
     pub(crate) fn end_dump(&mut self) -> Result<(), AllocError>
-        ensures header { (map : Map) (h : Heading) (ds : List Declaration) → IsHeader map h ds self.old.vcd →
-            IfOk result (λ _. EndsHeader self.old self.new) }
-        ensures body { (r : Reading) → IsReading r self.old.vcd → IfOk result (λ _. EndsDump self.old self.new r) }
+        ensures dump { (map : Map) (reached : Reached) → HasReached map reached self.old.vcd →
+            IfOk result (λ _. EndsDump map self.old self.new reached) }
         ensures kind { IfOk result (λ _. self.new.kind ≡ self.old.kind) }
     {
         match self.vcd.end() {

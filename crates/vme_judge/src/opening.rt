@@ -12,17 +12,6 @@ use vme_answers::{Answers, BoardRule, Open};
 use vme_protocol::{Mode, Scope};
 use vme_vcd_reader::Presence;
 
-/// The lines of a dump whose header is not read yet.
-const NO_LINES: Presence = Presence {
-    drivers: 0,
-    requests: 0,
-    grants: 0,
-    ports: 0,
-    bus_error: false,
-    interrupt_acknowledge: false,
-    busy: false,
-};
-
 /// The bytes that a word opens in the board with an index.
 fn open_at(index: usize, size: u32, word: &OpenBytes) -> Open
     ensures { result ≡ open_at index size word.now.range }
@@ -138,7 +127,7 @@ impl<'a> Judge<'a> {
                 ignored: options.ignored,
                 timeout: options.timeout.unwrap_or(u64::MAX),
             },
-            presence: NO_LINES,
+            presence: Presence::NONE,
             counts: Counts::NONE,
             transfer: None,
             finding: None,

@@ -1,16 +1,14 @@
 //! A trace, byte by byte.
-ghost use Rattle.std.specs.Prelude.{◌≡◌, ◌≢◌, ◌||◌, ℕ, List, [], ◌∷◌, ◌++◌, true, false, Some, None, replicate, is_some, IfOk, if◌then◌else◌};
+ghost use Rattle.std.specs.Prelude.{◌≡◌, ◌≢◌, ◌||◌, ℕ, List, [], ◌∷◌, ◌++◌, true, false, Ok, Some, None, replicate, is_some, IfOk, if◌then◌else◌};
 ghost use Rattle.vme_judge.specs.declared.run.Kind.TheVariants.{Dump, Unknown};
 ghost use Rattle.vme_judge.specs.declared.log.Taken.TheVariants.{Legal};
 ghost use Rattle.vme_bus_log.specs.declared.entry.LogEntry.TheVariants.{Nothing};
 ghost use Rattle.vme_bus_log.specs.Texts.{EndsNoLine};
 ghost use Rattle.vme_line_map.specs.Variables.{Map};
-ghost use Rattle.vme_vcd_reader.specs.Bodies.{Reading};
-ghost use Rattle.vme_vcd_reader.specs.Headers.{Heading, beginning};
-ghost use Rattle.vme_vcd_reader.specs.Mapping.{Declaration};
-ghost use Rattle.vme_vcd_reader.specs.Readers.{IsHeader, IsReading};
+ghost use Rattle.vme_vcd_reader.specs.Headers.{beginning};
+ghost use Rattle.vme_vcd_reader.specs.Readers.{IsHeader};
 ghost use Rattle.vme_judge.specs.Blanks.{AreBlanks, IsAtStart, IsBlankLine, IsBlankSoFar, line_past, SkipsBlanks, TakesBlanks, TakesFirst, TakesFurther};
-ghost use Rattle.vme_judge.specs.DumpRuns.{dump_so_far, EndsDump, EndsHeader, HasReached, Reached, TakesPiece};
+ghost use Rattle.vme_judge.specs.DumpRuns.{dump_so_far, EndsDump, HasReached, Reached, TakesPiece};
 ghost use Rattle.vme_judge.specs.Dumps.{Legal as LegalDump};
 ghost use Rattle.vme_judge.specs.Logs.{break_at, is_broken};
 ghost use Rattle.vme_judge.specs.Logs.{Legal as LegalSoFar};
@@ -187,8 +185,8 @@ impl<'a> Run<'a> {
         }
     }
 
-    /// Rejects a line of a log, unless one was rejected before.
-    fn reject(&mut self, why: Why, line: u64)
+    /// Rejects a line of the trace, unless one was rejected before.
+    pub(crate) fn reject(&mut self, why: Why, line: u64)
         ensures rejected { is_some self.new.rejection ≡ true }
         ensures cause { cause_of self.new.rejection
             ≡ (if is_some self.old.rejection then cause_of self.old.rejection else cause_by why (Some line)) }
@@ -205,7 +203,7 @@ impl<'a> Run<'a> {
 
     /// Takes what a line of a log says.
     fn take_entry(&mut self, entry: &LogEntry, line: u64) -> Result<bool, AllocError>
-        ensures line { IfOk result (λ _. TakesLine self.old self.new line (Some entry.now)) }
+        ensures line { IfOk result (λ _. TakesLine self.old self.new line (Ok entry.now)) }
         ensures stays { IfOk result (λ _. StaysFound self.old self.new) }
         ensures stops { IfOk result (λ goes_on. goes_on ≡ false → IsOver (run_so_far self.new)) }
         ensures once { IfOk result (λ goes_on. RunsOnce self.old self.new goes_on) }
@@ -260,10 +258,8 @@ impl<'a> Run<'a> {
         ensures stays { IfOk result (λ _. is_no_dump self.old.kind ≡ true → StaysFound self.old self.new) }
         ensures once { IfOk result (λ _. is_no_dump self.old.kind ≡ true →
             IsOnceRun self.old → IsGoing self.old → IsOnceRun self.new) }
-        ensures header { (map : Map) (h : Heading) (ds : List Declaration) → self.old.kind ≡ Dump → IsHeader map h ds self.old.vcd →
-            IfOk result (λ _. EndsHeader self.old self.new) }
-        ensures body { (r : Reading) → self.old.kind ≡ Dump → IsReading r self.old.vcd →
-            IfOk result (λ _. EndsDump self.old self.new r) }
+        ensures dump { (map : Map) (reached : Reached) → self.old.kind ≡ Dump → HasReached map reached self.old.vcd →
+            IfOk result (λ _. EndsDump map self.old self.new reached) }
         ensures kind { IfOk result (λ _. self.new.kind ≡ self.old.kind) }
     {
         match self.kind {

@@ -1,6 +1,6 @@
 -- A reader goes on with a header.
-use Rattle.std.proofs.Common.{◌≡◌, inl, ℕ, false, List, [], ◌∷◌, ◌++◌, Result, Ok, Err, refl, sym, subst, ◌∙◌}
-use Rattle.std.specs.Prelude.{IfOk, IfErr}
+use Rattle.std.proofs.Common.{◌≡◌, inl, inr, ℕ, false, Some, None, ap, List, [], ◌∷◌, ◌++◌, Result, Ok, Err, refl, sym, subst, ◌∙◌}
+use Rattle.std.specs.Prelude.{IfOk, IfErr, OnErr}
 use Rattle.vme_line_map.specs.Variables.{Map}
 use Rattle.vme_vcd_reader.specs.declared.fault.VcdFault.{VcdFault}
 use Rattle.vme_vcd_reader.specs.declared.fault.VcdFault.TheVariants as faults
@@ -11,14 +11,16 @@ use Rattle.vme_vcd_reader.specs.declared.reader.Step.TheVariants as steps
 use Rattle.vme_vcd_reader.specs.declared.reader.VcdReader.{VcdReader}
 use Rattle.vme_vcd_reader.specs.declared.variable.Mapped.{Mapped}
 use Rattle.vme_vcd_reader.specs.Bodies.{Reading}
+use Rattle.vme_vcd_reader.specs.Faults.{Flaw}
 use Rattle.vme_vcd_reader.specs.Found.{IsMapFault, IsMatching}
-use Rattle.vme_vcd_reader.specs.Headers.{Heading, Outcome, Goes, Declares, Ends, Rejects, fault_of, is_long}
+use Rattle.vme_vcd_reader.specs.Headers.{Heading, Outcome, Goes, Declares, Ends, Rejects, fault_of, header_end, is_long}
 use Rattle.vme_vcd_reader.specs.Headings.{IsHeading, ReadsByte}
 use Rattle.vme_vcd_reader.specs.Mapping.{Declaration, declaration}
 use Rattle.vme_vcd_reader.specs.Matches.{lines_of}
 use Rattle.vme_vcd_reader.specs.Openings.{opening_of}
 use Rattle.vme_vcd_reader.specs.Presences.{presence_of}
-use Rattle.vme_vcd_reader.specs.Readers.{EntersBody, IsBefore, IsHeader, IsHeadingFault, IsReading, TakesHeading}
+use Rattle.vme_vcd_reader.specs.Samples.{End, Broken}
+use Rattle.vme_vcd_reader.specs.Readers.{EntersBody, IsBefore, IsEndFault, IsHeader, IsHeadingFault, IsReading, TakesHeading}
 
 -- a byte that completes nothing
 pub takes_more : (map : Map) (o : Outcome) (ds : List Declaration) (v : VcdReader) → ReadsByte o progress.More v.header
@@ -56,6 +58,42 @@ end_is_fault (Goes h) s lines fault reads is = absurd (cc (reads.0))
 end_is_fault (Declares h) s lines fault reads is = absurd (cc (reads.0))
 end_is_fault Ends s lines fault reads is = is
 end_is_fault (Rejects why) s lines fault reads is = absurd reads
+
+-- a text that ends in its header
+pub end_fault_is : (o : Outcome) (lines : Result (List (ℕ × Mapped)) VcdFault) (fault : VcdFault) → IsHeadingFault o lines fault
+    → IsEndFault (header_end o lines) fault
+end_fault_is (Goes h) lines fault is = inl is
+end_fault_is (Declares h) lines fault is = inl is
+end_fault_is Ends lines fault (inl is) = inl is
+end_fault_is Ends lines fault (inr is) = inr (ap (header_end Ends) is)
+end_fault_is (Rejects why) lines fault is = inr (ap Some (sym is))
+
+pub ends_within : (map : Map) (o : Outcome) (ds : List Declaration) (step : Step) (v : VcdReader) → TakesHeading map o ds step v
+    → (step ≡ steps.Header → ⊥) → header_end o (lines_of map ds) ≡ Some faults.EndsInHeader
+ends_within map (Goes h) ds step v takes other = refl
+ends_within map (Declares h) ds step v takes other = refl
+ends_within map Ends ds step v takes other = absurd (other takes.0)
+ends_within map (Rejects fault) ds step v takes other = absurd takes
+
+enters_whole : (lines : Result (List (ℕ × Mapped)) VcdFault) (v : VcdReader) → EntersBody lines v → header_end Ends lines ≡ None
+enters_whole (Ok lines) v enters = refl
+enters_whole (Err fault) v enters = absurd enters
+
+pub ends_whole : (map : Map) (o : Outcome) (ds : List Declaration) (step : Step) (v : VcdReader) → TakesHeading map o ds step v → step ≡ steps.Header
+    → header_end o (lines_of map ds) ≡ None
+ends_whole map (Goes h) ds step v takes is = absurd (let both : steps.More ≡ steps.Header = sym takes.0 ∙ is in cc both)
+ends_whole map (Declares h) ds step v takes is = absurd (let both : steps.More ≡ steps.Header = sym takes.0 ∙ is in cc both)
+ends_whole map Ends ds step v takes is = enters_whole (lines_of map ds) v takes.1
+ends_whole map (Rejects fault) ds step v takes is = absurd takes
+
+-- a header that is whole ends a text, since its body has no word
+pub on_ok : {T E : Type 0} (result : Result T E) {P : Type 0} → P → IfOk result (λ _. P)
+on_ok (Ok value) it = it
+on_ok (Err fault) it = tt
+
+pub whole_body : {T : Type 0} (result : Result T VcdFault) (P : VcdFault → Type 0) (flaw : Flaw) → OnErr result (End ≡ Broken flaw) → IfErr result P
+whole_body (Ok value) P flaw never = tt
+whole_body (Err fault) P flaw never = absurd (cc never)
 
 -- a reader whose line is another one
 pub before_line : (v : VcdReader) (n : ℕ) → IsBefore v → IsBefore (record v { line = n })

@@ -1,5 +1,5 @@
 -- Lines of a body that are read whole.
-use Rattle.std.proofs.Common.{◌≡◌, ◌≢◌, ◌⊎◌, inl, inr, ℕ, zero, suc, ◌+◌, ◌-◌, ◌*◌, ◌%◌, ◌^◌, ◌<◌, ◌≤◌, Bool, false, ◌==◌, ◌||◌, List, [], ◌∷◌, ◌++◌, length, get_or, take, drop, Option, Some, None, refl, ap, sym, subst, ◌∙◌, arith, append_assoc, append-nil, add-one}
+use Rattle.std.proofs.Common.{ok_or, ◌≡◌, ◌≢◌, ◌⊎◌, inl, inr, ℕ, zero, suc, ◌+◌, ◌-◌, ◌*◌, ◌%◌, ◌^◌, ◌<◌, ◌≤◌, Bool, true, false, ◌==◌, ◌||◌, List, [], ◌∷◌, ◌++◌, length, get_or, take, drop, Option, Some, None, refl, ap, sym, subst, ◌∙◌, arith, append_assoc, append-nil, add-one}
 use Rattle.std.specs.Prelude.{if◌then◌else◌, bit_or, IfSome}
 use Rattle.std.specs.Option.{option_map, option_and_then}
 use Rattle.std.proofs.Math.Seq.{take-suc}
@@ -12,13 +12,15 @@ use Rattle.vme_vcd_reader.specs.declared.bits.Level.TheVariants as levels
 use Rattle.vme_vcd_reader.specs.declared.bus.BusLines.{BusLines}
 use Rattle.vme_vcd_reader.specs.declared.quick.Quick.{Quick}
 use Rattle.vme_vcd_reader.specs.declared.table.Row.{Row}
-use Rattle.vme_vcd_reader.specs.Bodies.{Moment, Reading, Shown, after_byte, byte_taken, line_after, next_line, samples_by, samples_of, time_taken}
+use Rattle.vme_vcd_reader.specs.Bodies.{Moment, Reading, Shown, after_byte, byte_taken, line_after, next_line, time_taken}
 use Rattle.vme_vcd_reader.specs.Levels.{level_of, levels_of, put, value_of, with_levels}
+use Rattle.vme_vcd_reader.specs.Faults.{byte_flaw, time_flaw}
 use Rattle.vme_vcd_reader.specs.Lines.{HasNoBlank, IsChangeLine, IsNameLine, IsTimeLine, between, bytes_taken, line_ended, list_of, shown_first}
 use Rattle.vme_vcd_reader.specs.Names.{identifier_of, no_identifier, with_character}
+use Rattle.vme_vcd_reader.specs.Samples.{samples_by, samples_of}
 use Rattle.vme_vcd_reader.specs.Tables.{has_variable, variables_after}
 use Rattle.vme_vcd_reader.specs.Words.{Awaited, Statement, Variable, Silence, At, blank_says, is_blank, number_from, with_digit}
-use Rattle.vme_vcd_reader.proofs.Bodies.{ended, reading, says_taken}
+use Rattle.vme_vcd_reader.proofs.Bodies.{says_result, ended, reading, says_taken}
 use Rattle.vme_vcd_reader.proofs.Digits.{numbers_more}
 
 -- bytes after one that completes no sample
@@ -70,7 +72,7 @@ word_shown : (rows : List Row) (awaited : Awaited) (word bs more : List ℕ) (li
 word_shown rows awaited word [] more lines time changed line whole =
     ap (λ word. samples_of rows (reading awaited word lines time changed line) more) (sym (append-nil word))
 word_shown rows awaited word (b ∷ bs) more lines time changed line whole =
-    ap (λ o. samples_by rows o (bs ++ more)) (within_taken rows awaited word b lines time changed line whole.0)
+    ap (λ o. samples_by rows (ok_or o (byte_flaw (reading awaited word lines time changed line) b)) (bs ++ more)) (within_taken rows awaited word b lines time changed line whole.0)
     ∙ word_shown rows awaited (word ++ b ∷ []) bs more lines time changed line whole.1
     ∙ ap (λ word. samples_of rows (reading awaited word lines time changed line) more) (append_assoc word (b ∷ []) bs)
 
@@ -302,12 +304,12 @@ time_taken_by rows d ds time lines before changed line whole is =
 time_shown : (rows : List Row) (d : ℕ) (ds : List ℕ) (time : ℕ) (lines : BusLines) (before : Option Moment) (changed : Bool) (line : ℕ) (more : List ℕ)
     → HasNoBlank (d ∷ ds) → number_from 0 (d ∷ ds) ≡ Some time
     → samples_of rows (between lines before changed line) (((35 ∷ d ∷ ds) ++ 10 ∷ []) ++ more)
-    ≡ samples_by rows (line_ended (time_taken (between lines before changed line) before time)) more
+    ≡ samples_by rows (ok_or (line_ended (time_taken (between lines before changed line) before time)) (time_flaw line)) more
 time_shown rows d ds time lines before changed line more whole is =
     ap (samples_of rows (between lines before changed line)) (append_assoc (35 ∷ d ∷ ds) (10 ∷ []) more)
     ∙ word_shown rows Statement [] (35 ∷ d ∷ ds) (10 ∷ more) lines before changed line (refl, whole)
-    ∙ ap (λ (o : Option ℕ). samples_by rows (option_map (after_byte 10)
-    (says_taken rows (reading Statement (35 ∷ d ∷ ds) lines before changed line) (ended (option_map (λ time. (Statement, At time)) o)))) more) is
+    ∙ ap (λ (o : Option ℕ). samples_by rows (says_result rows (reading Statement (35 ∷ d ∷ ds) lines before changed line) 10 true
+    (ended (option_map (λ time. (Statement, At time)) o)) (ended (option_map (λ time. (Statement, At time)) o))) more) is
 
 time_by : (digits rest text : List ℕ) (time : ℕ) → HasNoBlank digits → 0 < length digits → number_from 0 digits ≡ Some time
     → text ≡ 35 ∷ (digits ++ 10 ∷ rest) → IsTimeLine text rest time

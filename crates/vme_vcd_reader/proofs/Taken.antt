@@ -1,5 +1,5 @@
 -- A reader takes a line at once as it takes its bytes.
-use Rattle.std.proofs.Common.{◌≡◌, ◌≢◌, ℕ, false, ◌==◌, ◌||◌, List, [], ◌∷◌, ◌++◌, append_assoc, Option, Some, None, refl, ap, sym, subst, ◌∙◌, arith}
+use Rattle.std.proofs.Common.{ok_or, ◌≡◌, ◌≢◌, ℕ, false, ◌==◌, ◌||◌, List, [], ◌∷◌, ◌++◌, append_assoc, Option, Some, None, refl, ap, sym, subst, ◌∙◌, arith}
 use Rattle.std.specs.Prelude.{if◌then◌else◌}
 use Rattle.std.specs.Option.{option_map}
 use Rattle.std.proofs.lemmas.Bool.Decides.{nat_tests}
@@ -10,10 +10,12 @@ use Rattle.vme_vcd_reader.specs.declared.reader.Step.{Step}
 use Rattle.vme_vcd_reader.specs.declared.reader.Step.TheVariants as steps
 use Rattle.vme_vcd_reader.specs.declared.reader.VcdReader.{VcdReader}
 use Rattle.vme_vcd_reader.specs.declared.table.Row.{Row}
-use Rattle.vme_vcd_reader.specs.Bodies.{Reading, Shown, after_byte, line_after, next_line, samples_by, samples_of, time_taken}
+use Rattle.vme_vcd_reader.specs.Bodies.{Reading, Shown, after_byte, line_after, next_line, time_taken}
+use Rattle.vme_vcd_reader.specs.Faults.{time_flaw}
 use Rattle.vme_vcd_reader.specs.Lines.{IsChangeLine, IsTimeLine, between, bytes_taken, line_ended, list_of}
 use Rattle.vme_vcd_reader.specs.Places.{HasOpened, IsAt}
 use Rattle.vme_vcd_reader.specs.Readers.{IsBrokenText, IsReading, ReportsSample, TakesLine, TakesRead, rows_of}
+use Rattle.vme_vcd_reader.specs.Samples.{samples_by, samples_of}
 use Rattle.vme_vcd_reader.specs.Tables.{has_variable, variables_after}
 use Rattle.vme_vcd_reader.specs.Words.{Awaited, Statement, Variable, Unread, Remark, Opening, Number, Vector, Skipped, Keyword, Scalar, opening}
 use Rattle.vme_vcd_reader.proofs.Bodies.{reading}
@@ -110,11 +112,12 @@ line_times r v u text rest time step n is place line takes next =
 
 -- the samples of a text after a time
 line_shows : (rows : List Row) (r : Reading) (v : VcdReader) (text rest : List ℕ) (time : ℕ) → IsReading r v → v.body.place ≡ places.Gap
-    → (line : IsTimeLine text rest time) (more : List ℕ) → samples_of rows r (line.line ++ more) ≡ samples_by rows (line_ended (time_taken r r.time time)) more
+    → (line : IsTimeLine text rest time) (more : List ℕ) → samples_of rows r (line.line ++ more)
+    ≡ samples_by rows (ok_or (line_ended (time_taken r r.time time)) (time_flaw r.line)) more
 line_shows rows r v text rest time is place line more =
     let same : r ≡ between r.lines r.time r.changed r.line = is_between r v is place in
     ap (λ r. samples_of rows r (line.line ++ more)) same ∙ line.shows rows r.lines r.time r.changed r.line more
-    ∙ ap (λ (q : Reading). samples_by rows (line_ended (time_taken q r.time time)) more) (sym same)
+    ∙ ap (λ (q : Reading). samples_by rows (ok_or (line_ended (time_taken q r.time time)) (time_flaw r.line)) more) (sym same)
 
 -- a time that falls
 pub line_falls : (r : Reading) (v : VcdReader) (text rest : List ℕ) (time : ℕ) → IsReading r v → v.body.place ≡ places.Gap → IsTimeLine text rest time
@@ -123,7 +126,7 @@ line_falls r v text rest time is place line falls = λ more.
     ap (λ text. samples_of (rows_of v) r (text ++ more)) line.text_is
     ∙ ap (samples_of (rows_of v) r) (append_assoc line.line rest more)
     ∙ line_shows (rows_of v) r v text rest time is place line (rest ++ more)
-    ∙ ap (λ o. samples_by (rows_of v) (line_ended o) (rest ++ more)) falls
+    ∙ ap (λ o. samples_by (rows_of v) (ok_or (line_ended o) (time_flaw r.line)) (rest ++ more)) falls
 
 -- a byte that ends no line
 same_line : (b line : ℕ) → b ≢ 10 → line ≡ line_after b line

@@ -1,10 +1,9 @@
--- The samples of a dump's body, by its text and the variables that are mapped.
-use Rattle.std.specs.Prelude.{ℕ, ◌+◌, ◌^◌, ◌%◌, nat_lt, Bool, false, ◌==◌, ◌||◌, if◌then◌else◌, List, [], ◌∷◌, Option, Some, None}
+-- The body of a dump, byte by byte, by the variables that are mapped.
+use Rattle.std.specs.Prelude.{ℕ, ◌+◌, ◌^◌, ◌%◌, nat_lt, Bool, false, ◌==◌, ◌||◌, if◌then◌else◌, List, Option, Some, None}
 use Rattle.std.specs.Option.{option_map, option_and_then}
 use Rattle.vme_vcd_reader.specs.declared.bus.BusLines.{BusLines}
 use Rattle.vme_vcd_reader.specs.declared.table.Row.{Row}
 use Rattle.vme_vcd_reader.specs.Levels.{value_of}
-use Rattle.vme_vcd_reader.specs.Places.{may_end}
 use Rattle.vme_vcd_reader.specs.Ports.{without_changes}
 use Rattle.vme_vcd_reader.specs.Tables.{has_variable, variables_after}
 use Rattle.vme_vcd_reader.specs.Words.{Awaited, Fact, Silence, At, Change, byte_says}
@@ -93,34 +92,3 @@ after_byte b taken = (record taken.0 { line = line_after b taken.0.line }, taken
 -- a byte, taken
 abbrev pub byte_taken : List Row → Reading → ℕ → Option (Reading × Option Shown)
 byte_taken rows r b = option_map (after_byte b) (byte_said rows r b)
-
--- the samples of a body: one after another, to its end or to where it is none of a dump
-pub data Samples : Type 0 where
-  Sample : Shown → Samples → Samples
-  End : Samples
-  Broken : Samples
-
--- a sample, if there is one, before others
-abbrev pub before : Option Shown → Samples → Samples
-before None samples = samples
-before (Some shown) samples = Sample shown samples
-
--- the last sample: that of the time whose changes are read
-abbrev pub last_of : Reading → Option Moment → Samples
-last_of r None = End
-last_of r (Some at) = Sample (shown_at r at) End
-
--- the end of a text after its last word, which has to be the whole of a change, or within a comment
-abbrev pub ends_with : Option (Reading × Option Shown) → Samples
-ends_with None = Broken
-ends_with (Some taken) = if may_end taken.0.awaited then before taken.1 (last_of taken.0 taken.0.time) else Broken
-
--- the samples of the text that is left: a blank ends its last word
-abbrev pub samples_by : List Row → Option (Reading × Option Shown) → List ℕ → Samples
-samples_by rows None text = Broken
-samples_by rows (Some taken) [] = before taken.1 (ends_with (byte_taken rows taken.0 32))
-samples_by rows (Some taken) (b ∷ bs) = before taken.1 (samples_by rows (byte_taken rows taken.0 b) bs)
-
--- the samples of a text after what is read
-abbrev pub samples_of : List Row → Reading → List ℕ → Samples
-samples_of rows r text = samples_by rows (Some (r, None)) text

@@ -6,6 +6,11 @@ use Rattle.vme_vcd_reader.specs.declared.table.Row.{Row}
 use Rattle.vme_vcd_reader.specs.Bodies.{Reading, byte_said}
 use Rattle.vme_vcd_reader.specs.Words.{Opening, Number, Vector, Skipped, Keyword, Scalar, opening, Awaited, Statement, Variable, Unread, Remark, blank_says, is_blank}
 
+-- why a text is no dump, and the number of the line that is none of a dump
+pub record Flaw : Type 0 where
+  pub fault : VcdFault
+  pub line : ℕ
+
 -- why no word begins so, or no dump has a word that does: a time is no number below 2^64, a digit is no level, or a change has
 -- no identifier
 abbrev pub opened_fault : Option Opening → VcdFault
@@ -31,3 +36,19 @@ byte_fault r b = if is_blank b && is_some (blank_says r.awaited r.word) then fau
 -- why a body does not end where it ends: its last word is none of a dump, or it ends in a change
 abbrev pub end_fault : List Row → Reading → VcdFault
 end_fault rows r = if is_some (byte_said rows r 32) then faults.EndsInChange else byte_fault r 32
+
+-- why a body does not go on with a byte, and at which line
+abbrev pub byte_flaw : Reading → ℕ → Flaw
+byte_flaw r b = record { fault = byte_fault r b; line = r.line }
+
+-- the time of a line falls
+abbrev pub time_flaw : ℕ → Flaw
+time_flaw line = record { fault = faults.TimeFalls; line = line }
+
+-- a text ends in a change
+abbrev pub change_flaw : Reading → Flaw
+change_flaw r = record { fault = faults.EndsInChange; line = r.line }
+
+-- why a body does not end where it ends, and at which line
+abbrev pub end_flaw : List Row → Reading → Flaw
+end_flaw rows r = record { fault = end_fault rows r; line = r.line }

@@ -1,10 +1,11 @@
 -- The header of a dump, word by word: IEEE 1364-2005, clause 18.2.
-use Rattle.std.specs.Prelude.{ℕ, ◌+◌, ◌-◌, ◌*◌, ◌^◌, nat_le, nat_lt, min, Bool, true, false, ◌==◌, ◌&&◌, if◌then◌else◌, List, [], ◌∷◌, ◌++◌, length, slice_index, unwrap_or, bytes_eq, codes, Option, Some, None}
+use Rattle.std.specs.Prelude.{ℕ, ◌+◌, ◌-◌, ◌*◌, ◌^◌, nat_le, nat_lt, min, Bool, true, false, ◌==◌, ◌&&◌, if◌then◌else◌, List, [], ◌∷◌, ◌++◌, length, slice_index, unwrap_or, bytes_eq, codes, Option, Some, None, Result, Ok, Err}
 use Rattle.std.specs.Option.{option_and_then}
 use Rattle.vme_vcd_reader.specs.declared.fault.VcdFault.{VcdFault}
 use Rattle.vme_vcd_reader.specs.declared.fault.VcdFault.TheVariants as faults
 use Rattle.vme_vcd_reader.specs.declared.header.Next.{Next}
 use Rattle.vme_vcd_reader.specs.declared.header.Next.TheVariants as nexts
+use Rattle.vme_vcd_reader.specs.declared.variable.Mapped.{Mapped}
 use Rattle.vme_vcd_reader.specs.Names.{identifier_of, no_identifier}
 use Rattle.vme_vcd_reader.specs.Words.{is_blank}
 
@@ -139,3 +140,11 @@ byte_read h b = if is_blank b then blank_read h h.word else Goes (record h { wor
 abbrev pub fault_of : Outcome → VcdFault
 fault_of (Rejects fault) = fault
 fault_of outcome = faults.Memory
+
+-- why no dump ends here, if none does: by what becomes of its header with a last blank, and by its lines
+abbrev pub header_end : Outcome → Result (List (ℕ × Mapped)) VcdFault → Option VcdFault
+header_end (Rejects fault) lines = Some fault
+header_end Ends (Err fault) = Some fault
+header_end Ends (Ok lines) = None
+header_end (Goes h) lines = Some faults.EndsInHeader
+header_end (Declares h) lines = Some faults.EndsInHeader

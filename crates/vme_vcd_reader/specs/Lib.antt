@@ -8,9 +8,10 @@ pub mod Ports
 pub mod ControlLines
 pub mod Tables
 pub mod Bodies
+pub mod Faults
+pub mod Samples
 pub mod Openings
 pub mod Lines
-pub mod Faults
 pub mod FaultTexts
 pub mod Headers
 pub mod Headings

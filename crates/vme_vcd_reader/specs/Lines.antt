@@ -1,11 +1,13 @@
 -- Bytes of a dump's body one after another, and lines that stand whole at the start of a text, between two words.
-use Rattle.std.specs.Prelude.{◌≡◌, ℕ, ◌<◌, Bool, false, ◌||◌, List, [], ◌∷◌, ◌++◌, length, Option, Some, None}
+use Rattle.std.specs.Prelude.{◌≡◌, ℕ, ◌<◌, Bool, false, ◌||◌, List, [], ◌∷◌, ◌++◌, length, Option, Some, None, ok_or}
 use Rattle.std.specs.Option.{option_map, option_and_then}
 use Rattle.vme_vcd_reader.specs.declared.bits.Bits.{Bits}
 use Rattle.vme_vcd_reader.specs.declared.bus.BusLines.{BusLines}
 use Rattle.vme_vcd_reader.specs.declared.table.Row.{Row}
-use Rattle.vme_vcd_reader.specs.Bodies.{Moment, Reading, Shown, after_byte, byte_taken, next_line, samples_by, samples_of, time_taken}
+use Rattle.vme_vcd_reader.specs.Bodies.{Moment, Reading, Shown, after_byte, byte_taken, next_line, time_taken}
+use Rattle.vme_vcd_reader.specs.Faults.{time_flaw}
 use Rattle.vme_vcd_reader.specs.Names.{identifier_of}
+use Rattle.vme_vcd_reader.specs.Samples.{samples_by, samples_of}
 use Rattle.vme_vcd_reader.specs.Tables.{has_variable, variables_after}
 use Rattle.vme_vcd_reader.specs.Words.{Statement, is_blank}
 
@@ -63,7 +65,7 @@ pub record IsTimeLine (text rest : List ℕ) (time : ℕ) : Type 0 where
       ≡ option_map (λ taken. (taken.0, list_of taken.1)) (line_ended (time_taken (between lines before changed n) before time))
   pub shows : (rows : List Row) (lines : BusLines) (before : Option Moment) (changed : Bool) (n : ℕ) (more : List ℕ)
       → samples_of rows (between lines before changed n) (line ++ more)
-      ≡ samples_by rows (line_ended (time_taken (between lines before changed n) before time)) more
+      ≡ samples_by rows (ok_or (line_ended (time_taken (between lines before changed n) before time)) (time_flaw n)) more
 
 -- no byte is a blank
 abbrev pub HasNoBlank : List ℕ → Type 0

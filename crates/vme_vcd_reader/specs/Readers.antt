@@ -1,15 +1,16 @@
 -- How a reader remembers a dump.
-use Rattle.std.specs.Prelude.{◌≡◌, ℕ, true, false, if◌then◌else◌, List, [], ◌∷◌, ◌++◌, ◌<◌, length, Option, Some, None, Result, Ok, Err}
+use Rattle.std.specs.Prelude.{◌≡◌, ℕ, true, false, if◌then◌else◌, List, [], ◌∷◌, ◌++◌, ◌<◌, ◌⊎◌, length, Option, Some, None, Result, Ok, Err}
 use Rattle.vme_line_map.specs.Variables.{Map}
 use Rattle.vme_vcd_reader.specs.declared.reader.Step.{Step}
 use Rattle.vme_vcd_reader.specs.declared.reader.Step.TheVariants as steps
 use Rattle.vme_vcd_reader.specs.declared.reader.VcdReader.{VcdReader}
 use Rattle.vme_vcd_reader.specs.declared.table.Row.{Row}
-use Rattle.vme_vcd_reader.specs.Bodies.{Moment, Reading, Shown, Samples, Sample, End, Broken, samples_of}
+use Rattle.vme_vcd_reader.specs.Bodies.{Moment, Reading, Shown}
 use Rattle.vme_vcd_reader.specs.Headers.{Heading, Outcome, Goes, Declares, Ends, Rejects}
 use Rattle.vme_vcd_reader.specs.declared.fault.VcdFault.{VcdFault}
 use Rattle.vme_vcd_reader.specs.declared.fault.VcdFault.TheVariants as faults
 use Rattle.vme_vcd_reader.specs.declared.variable.Mapped.{Mapped}
+use Rattle.vme_vcd_reader.specs.Faults.{byte_flaw, time_flaw}
 use Rattle.vme_vcd_reader.specs.Found.{IsMapFault, IsMatching}
 use Rattle.vme_vcd_reader.specs.Mapping.{Declaration, declaration}
 use Rattle.vme_vcd_reader.specs.Matches.{lines_of}
@@ -19,6 +20,7 @@ use Rattle.vme_vcd_reader.specs.Lines.{bytes_taken, list_of}
 use Rattle.vme_vcd_reader.specs.Openings.{opening_of, resting}
 use Rattle.vme_vcd_reader.specs.Places.{IsAt}
 use Rattle.vme_vcd_reader.specs.Ports.{without_changes}
+use Rattle.vme_vcd_reader.specs.Samples.{Samples, Sample, End, Broken, samples_of}
 use Rattle.vme_vcd_reader.specs.Tables.{IsLinked, variables_of}
 use Rattle.vme_vcd_reader.specs.Words.{Statement}
 
@@ -84,6 +86,10 @@ IsHeadingFault (Rejects why) lines fault = fault ≡ why
 IsHeadingFault Ends lines fault = IsMapFault lines fault
 IsHeadingFault outcome lines fault = fault ≡ faults.Memory
 
+-- why a reader does not end a text in its header: an allocation failed, or this is why
+abbrev pub IsEndFault : Option VcdFault → VcdFault → Type 0
+IsEndFault why fault = (fault ≡ faults.Memory) ⊎ (why ≡ Some fault)
+
 -- a reader reports a sample, or none
 abbrev pub ReportsSample : Option Shown → Step → VcdReader → Type 0
 ReportsSample None step v = step ≡ steps.More
@@ -108,13 +114,13 @@ pub record TakesLine (rows : List Row) (r : Reading) (text rest : List ℕ) (ste
   pub reading : IsReading after v
   pub reports : ReportsSample shown step v
 
--- no body goes on with a byte, whatever follows
+-- no body goes on with a byte, whatever follows: why not is known
 abbrev pub IsBroken : List Row → Reading → ℕ → Type 0
-IsBroken rows r b = (rest : List ℕ) → samples_of rows r (b ∷ rest) ≡ Broken
+IsBroken rows r b = (rest : List ℕ) → samples_of rows r (b ∷ rest) ≡ Broken (byte_flaw r b)
 
--- no body goes on with a text, whatever follows, and it has no further sample
+-- no body goes on with a text, whatever follows, since its time falls, and it has no further sample
 abbrev pub IsBrokenText : List Row → Reading → List ℕ → Type 0
-IsBrokenText rows r text = (rest : List ℕ) → samples_of rows r (text ++ rest) ≡ Broken
+IsBrokenText rows r text = (rest : List ℕ) → samples_of rows r (text ++ rest) ≡ Broken (time_flaw r.line)
 
 -- the sample of the time whose changes are read
 abbrev pub shown_last : VcdReader → Shown
@@ -132,6 +138,6 @@ samples_left v = if v.is_begun then Sample (shown_last v) End else End
 
 -- a reader reports the first of the last samples of a text, if there is one, and has the others left
 abbrev pub ReportsLast : Samples → Step → VcdReader → Type 0
-ReportsLast Broken step v = ⊥
+ReportsLast (Broken flaw) step v = ⊥
 ReportsLast End step v = (step ≡ steps.More) × (samples_left v ≡ End)
 ReportsLast (Sample shown samples) step v = ReportsSample (Some shown) step v × (samples_left v ≡ samples)

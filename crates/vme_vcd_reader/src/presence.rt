@@ -23,7 +23,7 @@ pub struct Presence {
 
 impl Presence {
     /// None of them.
-    pub(crate) const NONE: Presence = Presence {
+    pub const NONE: Presence = Presence {
         bus_error: false,
         interrupt_acknowledge: false,
         busy: false,

@@ -1,15 +1,16 @@
 //! A dump as the levels of lines at its times.
-ghost use Rattle.std.specs.Prelude.{◌≡◌, ◌++◌, ◌∷◌, List, [], true, false, Ok, IfOk, IfErr, OnErr};
-ghost use Rattle.vme_vcd_reader.specs.Bodies.{Reading, Broken, End, byte_taken, line_after, samples_of};
+ghost use Rattle.std.specs.Prelude.{◌≡◌, ◌++◌, ◌∷◌, List, [], true, false, None, Ok, IfOk, IfErr, OnErr};
+ghost use Rattle.vme_vcd_reader.specs.Bodies.{Reading, byte_taken, line_after};
 ghost use Rattle.vme_vcd_reader.specs.declared.fault.VcdFault.TheVariants.{Memory};
 ghost use Rattle.vme_vcd_reader.specs.declared.reader.Step.TheVariants.{More, Header as HeaderRead};
 ghost use Rattle.vme_line_map.specs.Variables.{Map};
-ghost use Rattle.vme_vcd_reader.specs.Faults.{byte_fault, end_fault};
+ghost use Rattle.vme_vcd_reader.specs.Faults.{byte_fault, end_fault, end_flaw};
 ghost use Rattle.vme_vcd_reader.specs.Found.{IsMapFault, IsMatching};
-ghost use Rattle.vme_vcd_reader.specs.Headers.{Heading, beginning, byte_read, is_long};
+ghost use Rattle.vme_vcd_reader.specs.Headers.{Heading, beginning, byte_read, header_end, is_long};
 ghost use Rattle.vme_vcd_reader.specs.Mapping.{Declaration, declaration};
 ghost use Rattle.vme_vcd_reader.specs.Matches.{lines_of};
-ghost use Rattle.vme_vcd_reader.specs.Readers.{Enters, EntersBody, IsBefore, IsHeader, IsHeadingFault, IsBroken, IsReading, ReportsLast, TakesHeading, TakesRead, rows_of};
+ghost use Rattle.vme_vcd_reader.specs.Readers.{Enters, EntersBody, IsBefore, IsEndFault, IsHeader, IsHeadingFault, IsBroken, IsReading, ReportsLast, TakesHeading, TakesRead, rows_of};
+ghost use Rattle.vme_vcd_reader.specs.Samples.{Broken, End, samples_of};
 
 use crate::body::Body;
 use crate::bus::BusLines;
@@ -176,13 +177,18 @@ impl<'a> VcdReader<'a> {
     ///
     /// # Errors
     ///
-    /// Why the text is no dump.
+    /// Why the text is no dump; `line` is then the number of its line.
     pub fn end(&mut self) -> Result<Step, VcdFault>
         ensures header { IsBefore self.old → IfOk result (λ step. ReportsLast End step self.new) }
         ensures says { (r : Reading) → IsReading r self.old →
             IfOk result (λ step. ReportsLast (samples_of (rows_of self.old) r []) step self.new) }
-        ensures fault { (r : Reading) → IsReading r self.old → OnErr result (samples_of (rows_of self.old) r [] ≡ Broken) }
+        ensures fault { (r : Reading) → IsReading r self.old → OnErr result (samples_of (rows_of self.old) r [] ≡ Broken (end_flaw (rows_of self.old) r)) }
         ensures why { (r : Reading) → IsReading r self.old → IfErr result (λ fault. fault ≡ end_fault (rows_of self.old) r) }
+        ensures heading { (map : Map) (h : Heading) (ds : List Declaration) → IsHeader map h ds self.old →
+            IfOk result (λ _. header_end (byte_read h 32) (lines_of map ds) ≡ None) }
+        ensures rejects { (map : Map) (h : Heading) (ds : List Declaration) → IsHeader map h ds self.old →
+            IfErr result (IsEndFault (header_end (byte_read h 32) (lines_of map ds))) }
+        ensures same_line { OnErr result (self.new.line ≡ self.old.line) }
     {
         if self.is_body {
             return self.end_body();

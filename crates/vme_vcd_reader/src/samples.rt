@@ -2,13 +2,14 @@
 ghost use Rattle.std.specs.Prelude.{◌≡◌, ◌||◌, List, [], true, false, Ok, None, IfOk, IfErr, IfSome, OnErr};
 ghost use Rattle.vme_vcd_reader.specs.declared.bits.Level.{Level};
 ghost use Rattle.vme_vcd_reader.specs.declared.body.Place.TheVariants.{Gap};
-ghost use Rattle.vme_vcd_reader.specs.Bodies.{Reading, Broken, byte_said, samples_of, time_taken};
+ghost use Rattle.vme_vcd_reader.specs.Bodies.{Reading, byte_said, time_taken};
 ghost use Rattle.vme_vcd_reader.specs.declared.fault.VcdFault.TheVariants.{TimeFalls};
 ghost use Rattle.vme_vcd_reader.specs.declared.reader.Step.TheVariants.{More};
-ghost use Rattle.vme_vcd_reader.specs.Faults.{byte_fault, end_fault};
+ghost use Rattle.vme_vcd_reader.specs.Faults.{byte_fault, end_fault, end_flaw};
 ghost use Rattle.vme_vcd_reader.specs.Levels.{IsValue, value_of};
 ghost use Rattle.vme_vcd_reader.specs.Ports.{without_changes};
 ghost use Rattle.vme_vcd_reader.specs.Readers.{IsBroken, IsBrokenText, IsReading, ReportsLast, TakesLine, TakesRead, rows_of, samples_left};
+ghost use Rattle.vme_vcd_reader.specs.Samples.{Broken, samples_of};
 ghost use Rattle.vme_vcd_reader.specs.Tables.{IsLinked, has_variable, variables_after};
 ghost use Rattle.vme_vcd_reader.specs.Words.{is_blank};
 
@@ -34,6 +35,7 @@ impl VcdReader<'_> {
             IfOk result (λ taken. IfSome taken (λ taken. TakesLine (rows_of self.old) r text.now taken.1.now taken.0 self.new)) }
         ensures fault { (r : Reading) → IsReading r self.old → OnErr result (IsBrokenText (rows_of self.old) r text.now) }
         ensures why { IfErr result (λ fault. fault ≡ TimeFalls) }
+        ensures same_line { OnErr result (self.new.line ≡ self.old.line) }
         ensures table { self.new.table ≡ self.old.table }
     {
         if !self.is_body {
@@ -59,6 +61,7 @@ impl VcdReader<'_> {
         ensures fault { (r : Reading) → IsReading r self.old → self.old.body.place ≡ Gap →
             OnErr result (IsBrokenText (rows_of self.old) r text.now) }
         ensures why { IfErr result (λ fault. fault ≡ TimeFalls) }
+        ensures same_line { OnErr result (self.new.line ≡ self.old.line) }
         ensures table { self.new.table ≡ self.old.table }
     {
         let Some(quick) = quick_time(text) else {
@@ -73,8 +76,9 @@ impl VcdReader<'_> {
     pub(crate) fn end_body(&mut self) -> Result<Step, VcdFault>
         ensures says { (r : Reading) → IsReading r self.old →
             IfOk result (λ step. ReportsLast (samples_of (rows_of self.old) r []) step self.new) }
-        ensures fault { (r : Reading) → IsReading r self.old → OnErr result (samples_of (rows_of self.old) r [] ≡ Broken) }
+        ensures fault { (r : Reading) → IsReading r self.old → OnErr result (samples_of (rows_of self.old) r [] ≡ Broken (end_flaw (rows_of self.old) r)) }
         ensures why { (r : Reading) → IsReading r self.old → IfErr result (λ fault. fault ≡ end_fault (rows_of self.old) r) }
+        ensures same_line { OnErr result (self.new.line ≡ self.old.line) }
     {
         let step = self.push_body(b' ')?;
         if !self.body.may_end() {

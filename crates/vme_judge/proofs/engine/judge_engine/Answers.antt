@@ -19,7 +19,7 @@ loop-piece-init g c = record {
       c.in_ok-run.ensures.line c.in_ok-run.ensures.number c.in_ok-run.ensures.kind;
   dump = dump_begins c.args.options.now c.args.map.now c.args.boards.now (g.S.Source.remaining c.args.trace.now) c.in_ok-run.run'
       c.in_ok-run.ensures.dump c.in_ok-run.ensures.going c.in_ok-run.ensures.options c.in_ok-run.ensures.found
-      c.in_ok-run.ensures.reader c.in_ok-run.ensures.line c.in_ok-run.ensures.kind;
+      c.in_ok-run.ensures.reader c.in_ok-run.ensures.line c.in_ok-run.ensures.number c.in_ok-run.ensures.kind;
 }
 
 pub returns-then-count-eq0-clause-log : goal.returns-then-count-eq0-clause-log
@@ -87,7 +87,7 @@ returns-then-count-eq0-clause-dump g c =
     (dump_ended c.args.options.now c.args.map.now c.args.boards.now (g.S.Source.remaining c.args.trace.now)
     (g.S.Source.remaining c.loop-piece.trace) (g.S.Source.remaining c.read.new.self) c.loop-piece.run c.end.new.self
     c.loop-piece.invariant.dump (rw c.if-count-eq0.true at c.in-Ok.ensures.bytes) (c.in-Ok.ensures.end (ap Ok c.if-count-eq0.true))
-    c.in_ok-end.ensures.kind (c.in_ok-end.ensures.header c.args.map.now) c.in_ok-end.ensures.body)
+    c.in_ok-end.ensures.kind (c.in_ok-end.ensures.dump c.args.map.now))
     c.written.ensures.dump
 
 pub returns-then-count-eq0-clause-dump_text : goal.returns-then-count-eq0-clause-dump_text
@@ -96,7 +96,7 @@ returns-then-count-eq0-clause-dump_text g c =
     (dump_ended c.args.options.now c.args.map.now c.args.boards.now (g.S.Source.remaining c.args.trace.now)
     (g.S.Source.remaining c.loop-piece.trace) (g.S.Source.remaining c.read.new.self) c.loop-piece.run c.end.new.self
     c.loop-piece.invariant.dump (rw c.if-count-eq0.true at c.in-Ok.ensures.bytes) (c.in-Ok.ensures.end (ap Ok c.if-count-eq0.true))
-    c.in_ok-end.ensures.kind (c.in_ok-end.ensures.header c.args.map.now) c.in_ok-end.ensures.body)
+    c.in_ok-end.ensures.kind (c.in_ok-end.ensures.dump c.args.map.now))
     (λ alone. printed_after c.written.result _ _ _ _ (ap g.W.Sink.contents (c.loop-piece.invariant.alone alone)) (c.written.ensures.text alone))
 
 pub returns-then-not-branch-clause-dump : goal.returns-then-not-branch-clause-dump

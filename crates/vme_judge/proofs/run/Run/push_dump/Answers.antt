@@ -1,3 +1,5 @@
+use Rattle.std.proofs.Common.{◌∙◌}
+use Rattle.vme_vcd_reader.specs.Faults.{byte_flaw}
 use Rattle.vme_judge.specs.DumpRuns.{InBody, InHeader}
 use Rattle.vme_judge.proofs.DumpHeaders.{heading_judged, heading_rejected}
 use Rattle.vme_judge.proofs.DumpRuns.{byte_judged, bytes_rejected}
@@ -13,9 +15,10 @@ returns-in-Ok-clause-dump c map (InBody r) is =
 
 pub returns-in-Err-clause-dump : goal.returns-in-Err-clause-dump
 returns-in-Err-clause-dump c map (InHeader h ds) is =
-    heading_rejected map c.args.self.now c.reject_dump.new.self h ds c.args.byte c.in-Err.fault c.reject_dump.result
-    (c.in-Err.ensures.rejects map h ds is) c.reject_dump.ensures.stops c.reject_dump.ensures.rejected c.reject_dump.ensures.judge
-    c.reject_dump.ensures.why
+    heading_rejected map c.args.self.now c.reject_dump.new.self h ds c.args.byte c.push.new.self.line c.in-Err.fault c.reject_dump.result
+    (c.in-Err.ensures.rejects map h ds is) c.reject_dump.ensures.stops c.reject_dump.ensures.rejected c.reject_dump.ensures.cause
+    c.in-Err.ensures.same_line c.reject_dump.ensures.judge c.reject_dump.ensures.why
 returns-in-Err-clause-dump c map (InBody r) is =
-    bytes_rejected map c.args.self.now c.reject_dump.new.self r _ c.reject_dump.result (c.in-Err.ensures.fault r is) c.reject_dump.ensures.stops
-    c.reject_dump.ensures.rejected c.reject_dump.ensures.judge
+    bytes_rejected map c.args.self.now c.reject_dump.new.self r _ (byte_flaw r c.args.byte) c.push.new.self.line c.in-Err.fault
+    c.reject_dump.result (c.in-Err.ensures.fault r is) c.reject_dump.ensures.stops c.reject_dump.ensures.rejected c.reject_dump.ensures.cause
+    (c.in-Err.ensures.same_line ∙ is.line) (c.in-Err.ensures.why r is) c.reject_dump.ensures.judge

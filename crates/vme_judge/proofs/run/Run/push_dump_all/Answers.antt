@@ -47,9 +47,10 @@ returns-in-Err-clause-dump c = λ map reached is.
     let to = c.loop-step.invariant.reads map reached is in
     dump_refused map c.args.self.now c.loop-step.self c.reject_dump.new.self reached c.args.bytes.now c.loop-step.rest.now
     c.reject_dump.result to (c.loop-step.invariant.stays map reached is) (c.loop-step.invariant.once map reached is)
-    (text_rejected map c.loop-step.self c.reject_dump.new.self to.after c.loop-step.rest.now c.reject_dump.result to.reading
+    (text_rejected map c.loop-step.self c.reject_dump.new.self to.after c.loop-step.rest.now c.push_line.new.self.line c.in-Err.fault
+    c.reject_dump.result to.reading
     (λ before. no_error c.push_line.result _ (c.push_line.ensures.before before) c.in-Err.is) c.in-Err.ensures.fault c.reject_dump.ensures.stops
-    c.reject_dump.ensures.rejected c.reject_dump.ensures.judge)
+    c.reject_dump.ensures.rejected c.reject_dump.ensures.cause c.in-Err.ensures.same_line c.in-Err.ensures.why c.reject_dump.ensures.judge)
     c.reject_dump.ensures.stops
 
 pub returns-then-not-branch-2-clause-dump : goal.returns-then-not-branch-2-clause-dump

@@ -48,6 +48,7 @@ pub returns-clause-blanks : goal.returns-clause-blanks
 returns-clause-blanks c = λ line are is.
     blanks_kept line c.args.self.now c.loop-line.self (record c.loop-line.self { log = c.keep_all.new.self }) c.keep_all.new.self
     c.args.bytes.now c.loop-line.rest.now (c.loop-line.invariant.blanks line are is) c.in_default.ensures refl c.keep_all.ensures.begin
+    c.keep_all.ensures.number
 
 pub returns-then-not-goes_on-clause-judges : goal.returns-then-not-goes_on-clause-judges
 returns-then-not-goes_on-clause-judges c =
