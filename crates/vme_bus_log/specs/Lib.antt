@@ -4,3 +4,4 @@ pub mod Entries
 pub mod Faults
 pub mod Texts
 pub mod FaultTexts
+pub mod Lines
