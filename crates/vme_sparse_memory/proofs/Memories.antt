@@ -1,7 +1,8 @@
 -- Memories by words.
-use Rattle.std.proofs.Common.{◌≡◌, ◌+◌, ◌-◌, ◌*◌, ◌/◌, ◌%◌, ◌<◌, ◌≤◌, ℕ, zero, suc, true, Some, None, nat_le, slice_get, List, [], ◌∷◌, ◌++◌, take, drop, length, get_or, min, slice_range, set, replicate, refl, ap, sym, ◌∙◌, arith}
+use Rattle.std.proofs.Common.{◌≡◌, ◌+◌, ◌-◌, ◌*◌, ◌/◌, ◌%◌, ◌<◌, ◌≤◌, ℕ, zero, suc, true, Some, None, All, nat_le, slice_get, List, [], ◌∷◌, ◌++◌, take, drop, length, get_or, min, slice_range, set, replicate, subst, refl, ap, sym, ◌∙◌, arith}
 use Rattle.std.specs.Prelude.{◌^◌}
 use Rattle.std.proofs.lemmas.List.{append_assoc, drop-drop, get_or-take, get_or-drop, length-drop, length-replicate, replicate-append-replicate, length-take-le, take_min}
+use Rattle.std.proofs.lemmas.List.Elements.{All-replicate}
 use Rattle.std.proofs.lemmas.Bool.{and_parts, eqb-true, leb-true, le-leb}
 use Rattle.std.proofs.lemmas.Option.{slice_get_past, slice_get-get_or}
 use Rattle.std.proofs.Math.Seq.{take-add}
@@ -277,16 +278,29 @@ zero_more entries n offset j even less none before =
     ∙ replicate-append-replicate (4 * j) 4 0
     ∙ ap (λ m. replicate m 0) four
 
--- four words of zero are sixteen bytes of zero
-pub blank_row :
-    (entries : List WordEntry) (n offset : ℕ) → offset % 4 ≡ 0 → offset / 4 + 4 ≤ n
-    → ((k at : ℕ) → offset / 4 ≤ at → at < offset / 4 + 4 → get_or (words_with entries k) at 0 ≡ 0)
-    → take 16 (drop offset (bytes_of_words (words_with entries n))) ≡ zeros 16
-unfolding zeros
-blank_row entries n offset even within none =
-    let k = offset / 4 in
-    let zero_at : (j : ℕ) → j < 4 → get_or (words_with entries n) (k + j) 0 ≡ 0 = λ j few. none n (k + j) (omega arith) (omega arith) in
-    zero_more entries n offset 3 even (omega arith) (zero_at 3 (omega arith))
-    (zero_more entries n offset 2 even (omega arith) (zero_at 2 (omega arith))
-    (zero_more entries n offset 1 even (omega arith) (zero_at 1 (omega arith))
-    (zero_more entries n offset 0 even (omega arith) (zero_at 0 (omega arith)) refl)))
+-- words of zero from a word on have bytes of zero
+zero_bytes :
+    (entries : List WordEntry) (n offset j : ℕ) → offset % 4 ≡ 0 → j ≤ n - offset / 4
+    → ((at : ℕ) → offset / 4 ≤ at → at < offset / 4 + j → get_or (words_with entries n) at 0 ≡ 0)
+    → take (4 * j) (drop offset (bytes_of_words (words_with entries n))) ≡ replicate (4 * j) 0
+zero_bytes entries n offset zero even within none = refl
+zero_bytes entries n offset (suc j) even within none =
+    let one : suc j ≡ j + 1 = omega arith in
+    ap (λ m. take (4 * m) (drop offset (bytes_of_words (words_with entries n)))) one
+    ∙ zero_more entries n offset j even (omega (arith, within)) (none (offset / 4 + j) (omega arith) (omega arith))
+    (zero_bytes entries n offset j even (omega (arith, within)) (λ at from less. none at from (omega (arith, less))))
+    ∙ ap (λ m. replicate (4 * m) 0) (sym one)
+
+-- the bytes before a word are zero if its words before it are
+pub zero_before :
+    (entries : List WordEntry) (n offset stop next : ℕ) → offset % 4 ≡ 0 → stop ≤ next → next ≤ n
+    → ((k at : ℕ) → offset / 4 ≤ at → at < next → get_or (words_with entries k) at 0 ≡ 0)
+    → All (λ (byte : ℕ). byte ≡ 0) (slice_range (bytes_of_words (words_with entries n)) offset (4 * stop))
+zero_before entries n offset stop next even upto within none =
+    let bytes = bytes_of_words (words_with entries n) in
+    let j = stop - offset / 4 in
+    let four : 4 * stop - offset ≡ 4 * j = omega (arith, even) in
+    let zeros_there : slice_range bytes offset (4 * stop) ≡ replicate (4 * j) 0 =
+    ap (λ m. take m (drop offset bytes)) four
+    ∙ zero_bytes entries n offset j even (omega (arith, upto, within)) (λ at from less. none n at from (omega (arith, less, upto))) in
+    subst (All (λ (byte : ℕ). byte ≡ 0)) (sym zeros_there) (All-replicate (λ (byte : ℕ). byte ≡ 0) (4 * j) 0 refl)

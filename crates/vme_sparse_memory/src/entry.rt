@@ -61,18 +61,21 @@ pub(crate) fn are_same(some: &[WordEntry], others: &[WordEntry]) -> bool
     true
 }
 
-/// Returns `true` only if all words from an index up to another one are zero.
+/// Returns the lowest index from `first` on, below `end`, that an entry names, or `end` if there is none.
 #[tactic(auto, using(crate::proofs::Entries::apart_next, crate::proofs::Entries::none_named))]
-pub(crate) fn are_apart(entries: &[WordEntry], first: u32, end: u32) -> bool
-    ensures { IsTrue result → (n at : ℕ) → first ≤ at → at < end →
+pub(crate) fn next_named(entries: &[WordEntry], first: u32, end: u32) -> u32
+    ensures within { result ≤ end }
+    ensures order { result < end → first ≤ result }
+    ensures zero { (n at : ℕ) → first ≤ at → at < result →
         slice_index_or (words_with entries.now n) at 0 ≡ 0 }
 {
+    let mut next = end;
     for entry in entries {
-        if first <= entry.at && entry.at < end {
-            return false;
+        if first <= entry.at && entry.at < next {
+            next = entry.at;
         }
     }
-    true
+    next
 }
 
 /// Adds the entries of words below an index.

@@ -1,11 +1,11 @@
 //! The memory of one board by the words that are not zero.
-ghost use Rattle.std.specs.Prelude.{◌≡◌, ◌+◌, ◌-◌, ◌*◌, ◌≤◌, ◌<◌, ◌%◌, true, if◌then◌else◌, Some, None, IfOk, IsTrue, drop, length, min, slice_get, take, unwrap_or};
+ghost use Rattle.std.specs.Prelude.{◌≡◌, ◌+◌, ◌-◌, ◌*◌, ◌≤◌, ◌<◌, ◌%◌, true, if◌then◌else◌, Some, None, All, IfOk, IfSome, IsTrue, drop, length, min, slice_get, slice_range, take, unwrap_or};
 ghost use Rattle.vme_memory.specs.Boards.{bytes_after_write, is_board_size, zeros};
 ghost use Rattle.vme_memory.specs.Locals.{board_step};
 ghost use Rattle.vme_sparse_memory.specs.Windows.{window_of};
 
 use crate::command::{first_of, moved_to};
-use crate::entry::{WordEntry, are_apart, are_same, with_word, word_at};
+use crate::entry::{WordEntry, are_same, next_named, with_word, word_at};
 use crate::laws::commands_reach_a_window;
 use crate::word::{put_word, word_in};
 use std::alloc::{AllocError, Global};
@@ -154,18 +154,22 @@ impl SparseMemory {
         Some(byte_in(word, (offset % 4) as u8))
     }
 
-    /// Returns `true` only if sixteen bytes begin at `offset`, a multiple of four, and all are zero. It
-    /// is faster than a look at `row`.
-    #[tactic(auto, using(crate::proofs::Memories::blank_row))]
-    pub fn is_blank_row(&self, offset: u32) -> bool
-        requires { offset % 4 ≡ 0 }
-        ensures { IsTrue result → take 16 (drop offset self.now.bytes) ≡ zeros 16 }
+    /// Returns the offset of the first row of sixteen bytes, from that at `offset` on, with a word that is
+    /// not zero, or `None` if there is none. All bytes between are zero.
+    #[tactic(auto, using(crate::proofs::Memories::bytes_len, crate::proofs::Memories::zero_before))]
+    pub fn next_row(&self, offset: u32) -> Option<u32>
+        requires { offset % 16 ≡ 0 }
+        ensures aligned { IfSome result (λ next. next % 16 ≡ 0) }
+        ensures order { IfSome result (λ next. offset ≤ next) }
+        ensures within { IfSome result (λ next. next < length self.now.bytes) }
+        ensures zero { All (λ byte. byte ≡ 0)
+            (slice_range self.now.bytes offset (unwrap_or result (length self.now.bytes))) }
     {
-        let first = offset / 4;
-        if self.words < first.saturating_add(4) {
-            return false;
+        let next = next_named(self.entries.as_slice(), offset / 4, self.words);
+        if next == self.words {
+            return None;
         }
-        are_apart(self.entries.as_slice(), first, first + 4)
+        Some(4 * (next - next % 4))
     }
 
     /// Returns the sixteen bytes that begin at `offset`, or those up to the end. `offset` is a multiple of

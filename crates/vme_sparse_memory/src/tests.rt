@@ -41,8 +41,20 @@ fn check_bytes(rt: &impl Abort, sparse: &SparseMemory, whole: &ByteMemory) {
         assert!(rt; offset <= sparse.size());
         assert!(rt; offset <= whole.size());
         assert!(rt; sparse.row(offset).as_slice() == whole.row(offset).as_slice());
-        assert!(rt; sparse.is_blank_row(offset) == whole.is_blank_row(offset));
     }
+    for row in 0..3 {
+        assert!(rt; sparse.next_row(16 * row) == next_row_of(whole, 16 * row));
+    }
+}
+
+/// Returns the offset of the first row, from that at `offset` on, with a byte that is not zero.
+fn next_row_of(whole: &ByteMemory, offset: u32) -> Option<u32> {
+    for at in offset..SIZE {
+        if whole.byte(at) != Some(0) {
+            return Some(at - at % 16);
+        }
+    }
+    None
 }
 
 /// Writes bytes to two memories, which must reply alike, and reads them.
