@@ -1,11 +1,13 @@
 -- The text of an outcome, board by board and line by line.
-use Rattle.std.proofs.Common.{◌≡◌, ℕ, suc, ◌+◌, ◌-◌, ◌*◌, ◌<◌, ◌≤◌, List, [], ◌∷◌, ◌++◌, length, drop, map, Option, Some, None, ◌⊎◌, refl, ap, sym, ◌∙◌, arith, inl, inr}
-use Rattle.std.specs.Prelude.{slice_get, option_map, unwrap_or}
+use Rattle.std.proofs.Common.{◌≡◌, ℕ, zero, suc, ◌+◌, ◌-◌, ◌*◌, ◌/◌, ◌%◌, ◌<◌, ◌≤◌, true, All, List, [], ◌∷◌, ◌++◌, length, take, drop, get_or, slice_range, map, Option, Some, None, ◌⊎◌, subst, refl, ap, sym, ◌∙◌, arith, inl, inr}
+use Rattle.std.specs.Prelude.{◌==◌, slice_get, option_map, unwrap_or}
 use Rattle.std.specs.List.{flat_map, range_with_len}
-use Rattle.std.proofs.lemmas.List.{append-nil, drop_more, drop_all, length-map}
+use Rattle.std.proofs.lemmas.Bool.{cases_lt}
+use Rattle.std.proofs.lemmas.List.{append-nil, drop_more, drop_all, get_or-drop, get_or-take, length-drop, length-map, length-take}
+use Rattle.std.proofs.lemmas.List.Sums.{list_all-from_AllPass}
 use Rattle.std.proofs.lemmas.Option.{slice_get_within, slice_get_cases, get_or_from_slice_get, slice_get-map, same_Some}
-use Rattle.vme_memory.specs.Boards.{Board, zeros}
-use Rattle.vme_report.specs.Texts.{replies_text, dump_row, row_text, row_count, memory_text}
+use Rattle.vme_memory.specs.Boards.{Board}
+use Rattle.vme_report.specs.Texts.{replies_text, is_blank, dump_row, row_text, row_count, memory_text}
 use Rattle.vme_script.specs.ReplyTexts.{line_text}
 use Rattle.vme_script.specs.declared.script.ScriptLine.{ScriptLine}
 use Rattle.vme_shared.specs.declared.reply.LineReply.{LineReply}
@@ -176,35 +178,115 @@ replies_done slot script ended j text whole past so_far =
     sym (append-nil text)
     ∙ ap (λ (left : List ScriptLine). text ++ replies_text slot (numbered_replies left (drop j ended))) (sym (drop_all j script past)) ∙ so_far
 
+-- the text of the rows from a row on
+abbrev pub rows_from : ℕ → List ℕ → ℕ → List ℕ
+rows_from slot bytes i = flat_map (λ k. row_text slot (16 * k) (dump_row bytes k)) (range_with_len i (row_count bytes - i))
+
+-- a row of zeros has no text
+blank_row_text : (slot offset : ℕ) (row : List ℕ) → All (λ (byte : ℕ). byte ≡ 0) row → row_text slot offset row ≡ []
+unfolding row_text
+blank_row_text slot offset row zeros =
+    let blank : is_blank row ≡ true = list_all-from_AllPass (λ (byte : ℕ). byte == 0) row (λ k d less. ap (λ byte. byte == 0) (zeros k d less)) in
+    rw blank refl
+
+-- a row within bytes that are zero has zeros alone
+row_of_zeros : (bytes : List ℕ) (i offset end : ℕ) → offset ≤ 16 * i → (16 * i + 16 ≤ end) ⊎ (length bytes ≤ end)
+    → All (λ (byte : ℕ). byte ≡ 0) (slice_range bytes offset end) → All (λ (byte : ℕ). byte ≡ 0) (dump_row bytes i)
+row_of_zeros bytes i offset end from upto zeros k d less =
+    let rest = drop (16 * i) bytes in
+    let few : k < 16 = omega (arith, less, length-take 16 rest) in
+    let inside : 16 * i + k < length bytes = omega (arith, less, length-take 16 rest, length-drop (16 * i) bytes) in
+    let before : 16 * i + k < end = past upto few inside in
+    let at = 16 * i + k - offset in
+    let there : at < length (slice_range bytes offset end) =
+    omega (arith, from, inside, before, length-take (end - offset) (drop offset bytes), length-drop offset bytes) in
+    let place : offset + at ≡ 16 * i + k = omega (arith, from) in
+    get_or-take 16 rest k d few
+    ∙ get_or-drop (16 * i) bytes k d
+    ∙ ap (λ n. get_or bytes n d) (sym place)
+    ∙ sym (get_or-drop offset bytes at d)
+    ∙ sym (get_or-take (end - offset) (drop offset bytes) at d (omega (arith, from, before)))
+    ∙ zeros at d there
+  where
+    past : (16 * i + 16 ≤ end) ⊎ (length bytes ≤ end) → k < 16 → 16 * i + k < length bytes → 16 * i + k < end
+    past (inl below) few inside = omega (arith, below, few)
+    past (inr all) few inside = omega (arith, all, inside)
+
+-- numbers without text may be left out
+left_out : (text : ℕ → List ℕ) (i n rest : ℕ) → ((k : ℕ) → i ≤ k → k < i + n → text k ≡ [])
+    → flat_map text (range_with_len i (n + rest)) ≡ flat_map text (range_with_len (i + n) rest)
+left_out text i zero rest none =
+    let same : i ≡ i + 0 = omega arith in
+    let all : 0 + rest ≡ rest = omega arith in
+    ap (λ n. flat_map text (range_with_len i n)) all ∙ ap (λ k. flat_map text (range_with_len k rest)) same
+left_out text i (suc n) rest none =
+    let more : suc n + rest ≡ suc (n + rest) = omega arith in
+    let next : i + 1 + n ≡ i + suc n = omega arith in
+    ap (λ m. flat_map text (range_with_len i m)) more
+    ∙ ap (λ own. own ++ flat_map text (range_with_len (i + 1) (n + rest))) (none i (omega arith) (omega arith))
+    ∙ left_out text (i + 1) n rest (λ k from less. none k (omega (arith, from)) (omega (arith, less)))
+    ∙ ap (λ k. flat_map text (range_with_len k rest)) next
+
+-- rows of zeros may be left out
+rows_to : (slot i j end : ℕ) (bytes : List ℕ) → i ≤ j → j ≤ row_count bytes → (16 * j ≤ end) ⊎ (length bytes ≤ end)
+    → All (λ (byte : ℕ). byte ≡ 0) (slice_range bytes (16 * i) end) → rows_from slot bytes i ≡ rows_from slot bytes j
+rows_to slot i j end bytes order within upto zeros =
+    let text = λ (k : ℕ). row_text slot (16 * k) (dump_row bytes k) in
+    let parts : row_count bytes - i ≡ j - i + (row_count bytes - j) = omega (arith, order, within) in
+    let last : i + (j - i) ≡ j = omega (arith, order) in
+    ap (λ n. flat_map text (range_with_len i n)) parts
+    ∙ left_out text i (j - i) (row_count bytes - j)
+    (λ k from less. blank_row_text slot (16 * k) (dump_row bytes k) (row_of_zeros bytes k (16 * i) end (omega (arith, from)) (here k (omega (arith, less, order)) upto) zeros))
+    ∙ ap (λ k. flat_map text (range_with_len k (row_count bytes - j))) last
+  where
+    here : (k : ℕ) → k < j → (16 * j ≤ end) ⊎ (length bytes ≤ end) → (16 * k + 16 ≤ end) ⊎ (length bytes ≤ end)
+    here k less (inl below) = inl (omega (arith, below, less))
+    here k less (inr all) = inr all
+
 -- the text of the rows from a row on begins with that of its own row
 rows_next : (slot i : ℕ) (bytes : List ℕ) → i < row_count bytes
-    → flat_map (λ k. row_text slot (16 * k) (dump_row bytes k)) (range_with_len i (row_count bytes - i))
-    ≡ row_text slot (16 * i) (dump_row bytes i) ++ flat_map (λ k. row_text slot (16 * k) (dump_row bytes k)) (range_with_len (i + 1) (row_count bytes - (i + 1)))
+    → rows_from slot bytes i ≡ row_text slot (16 * i) (dump_row bytes i) ++ rows_from slot bytes (i + 1)
 rows_next slot i bytes within = ap (λ (k : ℕ). flat_map (λ k. row_text slot (16 * k) (dump_row bytes k)) (range_with_len i k)) one
   where
     one : row_count bytes - i ≡ suc (row_count bytes - (i + 1))
     one = omega (arith, within)
 
--- the text of one row more
-pub rows_step : (slot i : ℕ) (bytes own before after whole : List ℕ) → i < row_count bytes → own ≡ dump_row bytes i
-    → after ≡ before ++ row_text slot (16 * i) own
-    → before ++ flat_map (λ k. row_text slot (16 * k) (dump_row bytes k)) (range_with_len i (row_count bytes - i)) ≡ whole
-    → after ++ flat_map (λ k. row_text slot (16 * k) (dump_row bytes k)) (range_with_len (i + 1) (row_count bytes - (i + 1))) ≡ whole
-rows_step slot i bytes own before after whole within is added so_far =
-    one_more before after (row_text slot (16 * i) (dump_row bytes i))
-    (flat_map (λ k. row_text slot (16 * k) (dump_row bytes k)) (range_with_len (i + 1) (row_count bytes - (i + 1))))
-    (flat_map (λ k. row_text slot (16 * k) (dump_row bytes k)) (range_with_len i (row_count bytes - i))) whole
-    (added ∙ ap (λ (r : List ℕ). before ++ row_text slot (16 * i) r) is) (rows_next slot i bytes within) so_far
+-- the text of the next row that is not left out
+pub row_added : (slot offset row : ℕ) (bytes own before after whole : List ℕ) → offset % 16 ≡ 0 → row % 16 ≡ 0 → offset ≤ row → row < length bytes
+    → All (λ (byte : ℕ). byte ≡ 0) (slice_range bytes offset row) → own ≡ take 16 (drop row bytes) → after ≡ before ++ row_text slot row own
+    → before ++ rows_from slot bytes (offset / 16) ≡ whole → after ++ rows_from slot bytes ((row + 16) / 16) ≡ whole
+row_added slot offset row bytes own before after whole even aligned order within zeros is added so_far =
+    let i = offset / 16 in
+    let j = row / 16 in
+    let start : offset ≡ 16 * i = omega (arith, even) in
+    let place : row ≡ 16 * j = omega (arith, aligned) in
+    let next : j + 1 ≡ (row + 16) / 16 = omega arith in
+    let there : j < row_count bytes = omega (arith, within, place) in
+    let skipped : rows_from slot bytes i ≡ rows_from slot bytes j =
+    rows_to slot i j row bytes (omega (arith, order)) (omega (arith, there)) (inl (omega (arith, place)))
+    (subst (λ k. All (λ (byte : ℕ). byte ≡ 0) (slice_range bytes k row)) start zeros) in
+    one_more before after (row_text slot (16 * j) (dump_row bytes j)) (rows_from slot bytes ((row + 16) / 16)) (rows_from slot bytes i) whole
+    (added ∙ ap (λ (r : List ℕ). before ++ row_text slot row r) is ∙ ap (λ k. before ++ row_text slot k (take 16 (drop k bytes))) place)
+    (skipped ∙ rows_next slot j bytes there ∙ ap (λ k. row_text slot (16 * j) (dump_row bytes j) ++ rows_from slot bytes k) next) so_far
 
 -- past the last row the text is whole
-pub rows_done : (slot i : ℕ) (bytes text whole : List ℕ) → row_count bytes ≤ i
-    → text ++ flat_map (λ k. row_text slot (16 * k) (dump_row bytes k)) (range_with_len i (row_count bytes - i)) ≡ whole → text ≡ whole
+rows_done : (slot i : ℕ) (bytes text whole : List ℕ) → row_count bytes ≤ i → text ++ rows_from slot bytes i ≡ whole → text ≡ whole
 rows_done slot i bytes text whole past so_far =
     let none : row_count bytes - i ≡ 0 = omega (arith, past) in
     sym (append-nil text)
     ∙ ap (λ (k : ℕ). text ++ flat_map (λ k. row_text slot (16 * k) (dump_row bytes k)) (range_with_len i k)) (sym none) ∙ so_far
 
--- a row of zeros has no text
-pub blank_row_text : (text row : List ℕ) (slot offset : ℕ) → row ≡ zeros 16 → text ≡ text ++ row_text slot offset row
-unfolding row_text zeros
-blank_row_text text row slot offset is = rw is (sym (append-nil text))
+-- if all bytes that are left are zero, the text is whole
+pub no_row_left : (slot offset : ℕ) (bytes text whole : List ℕ) → offset % 16 ≡ 0
+    → All (λ (byte : ℕ). byte ≡ 0) (slice_range bytes offset (length bytes)) → text ++ rows_from slot bytes (offset / 16) ≡ whole → text ≡ whole
+no_row_left slot offset bytes text whole even zeros so_far =
+    let i = offset / 16 in
+    let start : offset ≡ 16 * i = omega (arith, even) in
+    elim (cases_lt i (row_count bytes)) [
+      | inl less ↦
+          let skipped : rows_from slot bytes i ≡ rows_from slot bytes (row_count bytes) =
+          rows_to slot i (row_count bytes) (length bytes) bytes (omega (arith, less)) (omega arith) (inr (omega arith))
+          (subst (λ k. All (λ (byte : ℕ). byte ≡ 0) (slice_range bytes k (length bytes))) start zeros) in
+          rows_done slot (row_count bytes) bytes text whole (omega arith) (ap (λ (t : List ℕ). text ++ t) (sym skipped) ∙ so_far)
+      | inr past ↦ rows_done slot i bytes text whole past so_far
+    ]

@@ -1,5 +1,5 @@
 //! The text of an outcome, appended to a buffer.
-ghost use Rattle.std.specs.Prelude.{◌≡◌, ◌<◌, ◌≤◌, ◌%◌, ◌++◌, drop, length, OnOk, Some, option_copied, slice_get, take, unwrap_or};
+ghost use Rattle.std.specs.Prelude.{◌≡◌, ◌<◌, ◌++◌, length, OnOk, Some, option_copied, slice_get, unwrap_or};
 ghost use Rattle.vme_report.specs.Texts.{replies_text, is_blank, row_text, memory_text};
 ghost use Rattle.vme_script.specs.ReplyTexts.{line_text};
 ghost use Rattle.vme_shared.specs.declared.reply.LineReply.TheVariants.{Unfinished};
@@ -96,29 +96,13 @@ fn append_memories(config: &Config, state: &State, text: &mut Vec<u8>) -> Result
 fn append_memory(slot: u16, memory: &SparseMemory, text: &mut Vec<u8>) -> Result<(), AllocError>
     ensures { OnOk result (text.new.items ≡ text.old.items ++ memory_text slot memory.now.bytes) }
 {
-    for row in 0..memory.size().div_ceil(ROW_SIZE) {
-        append_row_at(slot, ROW_SIZE * row, memory, text)?;
+    let _size = memory.size();
+    let mut offset = 0;
+    while let Some(row) = memory.next_row(offset) {
+        append_row(slot, row, memory.row(row).as_slice(), text)?;
+        offset = row + ROW_SIZE;
     }
     Ok(())
-}
-
-/// Appends the line of the row of a memory that begins at an offset, if one of its bytes is not zero.
-#[tactic(auto, using(crate::proofs::Texts::blank_row_text))]
-fn append_row_at(
-    slot: u16,
-    offset: u32,
-    memory: &SparseMemory,
-    text: &mut Vec<u8>,
-) -> Result<(), AllocError>
-    requires aligned { offset % 4 ≡ 0 }
-    requires within { offset ≤ length memory.now.bytes }
-    ensures { OnOk result (text.new.items
-        ≡ text.old.items ++ row_text slot offset (take 16 (drop offset memory.now.bytes))) }
-{
-    if memory.is_blank_row(offset) {
-        return Ok(());
-    }
-    append_row(slot, offset, memory.row(offset).as_slice(), text)
 }
 
 /// Returns whether all bytes are zero.

@@ -1,17 +1,17 @@
-use Rattle.std.proofs.Common.{◌≡◌, ◌<◌, ◌≤◌, refl, arith}
-use Rattle.vme_report.specs.Texts.{dump_row, row_count}
-use Rattle.vme_outcome_listing.proofs.Texts.{rows_step, rows_done}
+use Rattle.std.proofs.Common.{◌∙◌, arith}
+use Rattle.vme_outcome_listing.proofs.Texts.{row_added, no_row_left}
 use Rattle.vme_outcome_listing.proofs.text.append_memory.Goals as goal
 
 pub loop-row-preserved : goal.loop-row-preserved
 loop-row-preserved c =
-    let bytes = c.args.memory.now.bytes in
-    let within : c.loop-row.row < row_count bytes = omega (arith, c.loop-row-test.true, c.div_ceil-row-end.ensures, c.size.ensures.value) in
-    rows_step c.args.slot c.loop-row.row bytes (dump_row bytes c.loop-row.row) c.loop-row.text.items c.append_row_at.new.text.items _ within refl
-    c.in_ok-append_row_at.ensures c.loop-row.invariant
+    let next = c.in-Some.ensures in (
+      omega (arith, next.aligned),
+      row_added c.args.slot c.loop-row.offset c.in-Some.row c.args.memory.now.bytes c.as_slice.result.now c.loop-row.text.items
+          c.append_row.new.text.items _ c.loop-row.invariant.0 next.aligned next.order next.within next.zero (c.as_slice.ensures.value ∙ c.row.ensures)
+          c.in_ok-append_row.ensures c.loop-row.invariant.1,
+    )
 
 pub returns : goal.returns
 returns c =
-    let bytes = c.args.memory.now.bytes in
-    let past : row_count bytes ≤ c.loop-row.row = omega (arith, c.loop-row-test.false, c.div_ceil-row-end.ensures, c.size.ensures.value) in
-    rows_done c.args.slot c.loop-row.row bytes c.loop-row.text.items _ past c.loop-row.invariant
+    no_row_left c.args.slot c.loop-row.offset c.args.memory.now.bytes c.loop-row.text.items _ c.loop-row.invariant.0
+    c.in_default.ensures.zero c.loop-row.invariant.1
