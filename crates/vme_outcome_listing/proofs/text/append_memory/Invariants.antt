@@ -1,4 +1,4 @@
-use Rattle.std.proofs.Common.{◌≡◌, ℕ, ◌-◌, ◌/◌, ◌%◌, ◌++◌, length}
+use Rattle.std.proofs.Common.{◌≡◌, ◌-◌, ◌/◌, ◌%◌, ◌++◌, length}
 use Rattle.vme_report.specs.Texts.{memory_text}
 use Rattle.vme_outcome_listing.proofs.Texts.{rows_from}
 use Rattle.vme_outcome_listing.proofs.text.append_memory.Given as goal
