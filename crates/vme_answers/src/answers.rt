@@ -1,4 +1,4 @@
-ghost use Rattle.std.specs.Prelude.{◌≡◌, ◌+◌, ◌≤◌, length, replicate, None, Ok, Err, IsOk, IfOk, IfErr, IfSome};
+ghost use Rattle.std.specs.Prelude.{◌≡◌, ◌+◌, ◌≤◌, length, replicate, None, Ok, Err, IsErr, IsOk, IfOk, IfErr, IfSome};
 ghost use Rattle.vme_answers.specs.Forgetting.{forgot};
 ghost use Rattle.vme_answers.specs.Selecting.{select, board_at};
 ghost use Rattle.vme_answers.specs.Starting.{started};
@@ -84,6 +84,7 @@ impl Answers {
         ensures wrong { IfErr result (λ wrong. taken self.old datum.now ≡ Err wrong.rule) }
         ensures shows { IfErr result (λ wrong. wrong ≡ wrong_of self.old datum.now wrong.rule) }
         ensures taken { IsOk result → taken self.old datum.now ≡ Ok self.new }
+        ensures kept { IsErr result → self.new ≡ self.old }
     {
         match self.select(datum) {
             None => self.take_elsewhere(datum),
@@ -102,6 +103,7 @@ impl Answers {
         ensures wrong { IfErr result (λ wrong. local_taken self.old board access.now ≡ Err wrong.rule) }
         ensures shows { IfErr result (λ wrong. wrong ≡ local_wrong_of self.old board access.now wrong.rule) }
         ensures taken { IsOk result → local_taken self.old board access.now ≡ Ok self.new }
+        ensures kept { IsErr result → self.new ≡ self.old }
     {
         let row = match self.rows.get(board) {
             Some(row) => *row,
@@ -169,6 +171,7 @@ impl Answers {
         ensures wrong { IfErr result (λ wrong. taken_by self.old datum.now None ≡ Err wrong.rule) }
         ensures shows { IfErr result (λ wrong. wrong ≡ wrong_by self.old wrong.rule datum.now None) }
         ensures taken { IsOk result → taken_by self.old datum.now None ≡ Ok self.new }
+        ensures kept { IsErr result → self.new ≡ self.old }
     {
         if datum.dtack || self.others {
             self.half = None;
@@ -190,6 +193,7 @@ impl Answers {
         ensures shows { IfErr result (λ wrong. wrong ≡ wrong_at self.old wrong.rule selected.now datum.now.len) }
         ensures taken { IsOk result →
             taken_in self.old datum.now selected.now (place self.old selected.now datum.now.len) ≡ Ok self.new }
+        ensures kept { IsErr result → self.new ≡ self.old }
     {
         if let Some(at) = self.place(selected, datum.len) {
             return self.take_at(selected, at, datum);
@@ -208,6 +212,7 @@ impl Answers {
         ensures wrong { IfErr result (λ wrong. taken_at self.old datum.now selected.now at ≡ Err wrong.rule) }
         ensures shows { IfErr result (λ wrong. wrong ≡ wrong_at self.old wrong.rule selected.now datum.now.len) }
         ensures taken { IsOk result → taken_at self.old datum.now selected.now at ≡ Ok self.new }
+        ensures kept { IsErr result → self.new ≡ self.old }
     {
         let has_cycle = selected.has_cycle_of(datum);
         if datum.dtack {
@@ -234,6 +239,7 @@ impl Answers {
         ensures wrong { IfErr result (λ wrong. read_taken self.old datum.now selected.now at ≡ Err wrong.rule) }
         ensures shows { IfErr result (λ wrong. wrong ≡ wrong_at self.old wrong.rule selected.now datum.now.len) }
         ensures taken { IsOk result → read_taken self.old datum.now selected.now at ≡ Ok self.new }
+        ensures kept { IsErr result → self.new ≡ self.old }
     {
         let wrong = self.wrong(Rule::WrongBytes, selected, datum.len);
         let bytes = bytes_of(datum);
@@ -251,6 +257,7 @@ impl Answers {
         ensures wrong { IfErr result (λ wrong. write_taken self.old datum.now at ≡ Err wrong.rule) }
         ensures shows { IfErr result (λ wrong. wrong ≡ wrong_at self.old wrong.rule selected.now datum.now.len) }
         ensures taken { IsOk result → write_taken self.old datum.now at ≡ Ok self.new }
+        ensures kept { IsErr result → self.new ≡ self.old }
     {
         if is_second(datum) && is_torn(self.half) {
             return Err(self.wrong(Rule::TornModify, selected, datum.len));
@@ -268,6 +275,7 @@ impl Answers {
         ensures wrong { IfErr result (λ wrong. local_taken_at self.old access.now selected.now at ≡ Err wrong.rule) }
         ensures shows { IfErr result (λ wrong. wrong ≡ wrong_at self.old wrong.rule selected.now access.now.len) }
         ensures taken { IsOk result → local_taken_at self.old access.now selected.now at ≡ Ok self.new }
+        ensures kept { IsErr result → self.new ≡ self.old }
     {
         let wrong = self.wrong(Rule::WrongBytes, selected, access.len);
         let bytes = local_bytes(access);

@@ -1,6 +1,6 @@
 //! The bytes of a datum or a local access, and what is known of them.
-ghost use Rattle.std.specs.Prelude.{◌≡◌, ◌+◌, ◌≤◌, length, IsTrue};
-ghost use Rattle.vme_known.specs.Judging.{may_all_come};
+ghost use Rattle.std.specs.Prelude.{◌≡◌, ◌+◌, ◌≤◌, length, Some, IsFalse, IsTrue};
+ghost use Rattle.vme_known.specs.Judging.{may_all_come, may_find};
 ghost use Rattle.vme_answers.specs.Wrongs.{known_at, known_from};
 ghost use Rattle.vme_answers.specs.Bytes.{finds, stores, all_after, all_forgotten, bytes_of, local_bytes};
 
@@ -31,24 +31,47 @@ pub(crate) fn local_bytes(local: &Local) -> Bytes
     Bytes::try_from(&bytes[usize::from(4 - local.len)..4]).unwrap()
 }
 
-/// Takes bytes that a read found from a place on, up to one that may not be found, and returns whether
-/// there is none.
+/// Takes bytes that a read found from a place on, and returns whether they may be found. If not,
+/// nothing is taken.
 pub(crate) fn find_all(known: &mut KnownBytes, at: usize, bytes: &[u8]) -> bool
     requires { at + length bytes.now ≤ length known.old }
     ensures answer { result ≡ may_all_come known.old (finds at bytes.now) }
     ensures known { IsTrue result → known.new ≡ all_after known.old (finds at bytes.now) }
+    ensures kept { IsFalse result → known.new ≡ known.old }
     ensures len { length known.new ≡ length known.old }
+{
+    if !may_find_all(known, at, bytes) {
+        return false;
+    }
+    store_all(known, at, bytes);
+    true
+}
+
+/// Whether bytes may be found from a place on.
+fn may_find_all(known: &KnownBytes, at: usize, bytes: &[u8]) -> bool
+    requires { at + length bytes.now ≤ length known.now }
+    ensures { result ≡ may_all_come known.now (finds at bytes.now) }
 {
     // A place up to the end can be counted.
     let _end = known.len();
     let mut place = at;
     for byte in bytes {
-        if !known.find(place, *byte) {
+        if !may_find(known.get(place), *byte) {
             return false;
         }
         place += 1;
     }
     true
+}
+
+/// Whether a byte may be found where this is known.
+fn may_find(known: Byte, byte: u8) -> bool
+    ensures { result ≡ may_find (Some known) byte }
+{
+    match known {
+        Byte::Open | Byte::Unseen => true,
+        Byte::Known(value) => value == byte,
+    }
 }
 
 /// Takes bytes that a write stored from a place on.
