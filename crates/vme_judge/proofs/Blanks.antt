@@ -153,7 +153,7 @@ blanks_from line run bytes are is = record {
 }
 
 -- what is left after a line
-left_then : (left part after rest : List ℕ) → left ≡ part ++ 10 ∷ after → left ++ rest ≡ (part ++ 10 ∷ []) ++ (after ++ rest)
+pub left_then : (left part after rest : List ℕ) → left ≡ part ++ 10 ∷ after → left ++ rest ≡ (part ++ 10 ∷ []) ++ (after ++ rest)
 left_then left part after rest parts =
     ap (λ text. text ++ rest) (parts ∙ sym (append_assoc part (10 ∷ []) after)) ∙ append_assoc (part ++ 10 ∷ []) after rest
 

@@ -1,5 +1,5 @@
 -- A run that takes the blanks before a dump.
-use Rattle.std.proofs.Common.{◌≡◌, ℕ, ◌+◌, ◌<◌, Bool, true, false, ◌==◌, zero, suc, List, [], ◌∷◌, ◌++◌, append_assoc, map, drop, take, length, get_or, slice_get, arith, eqb-true, subst, Option, Some, is_some, Result, Ok, Err, IfOk, refl, ap, sym, ◌∙◌}
+use Rattle.std.proofs.Common.{◌≡◌, ℕ, ◌+◌, ◌<◌, Bool, true, false, not, ◌==◌, ◌&&◌, zero, suc, List, [], ◌∷◌, ◌++◌, append_assoc, map, drop, take, length, get_or, slice_get, arith, eqb-true, subst, Option, Some, is_some, Result, Ok, Err, IfOk, refl, ap, sym, ◌∙◌}
 use Rattle.std.specs.Prelude.{if◌then◌else◌}
 use Rattle.std.specs.declared.alloc.AllocError.{AllocError}
 use Rattle.std.proofs.lemmas.Bool.{false≢true}
@@ -14,22 +14,21 @@ use Rattle.vme_vcd_reader.specs.Mapping.{Declaration}
 use Rattle.vme_vcd_reader.specs.Readers.{IsHeader, TakesHeading}
 use Rattle.vme_judge.specs.declared.dump.Ports.{Ports}
 use Rattle.vme_judge.specs.declared.judge.Judge.{Judge}
-use Rattle.vme_judge.specs.declared.options.Options.{Options}
 use Rattle.vme_judge.specs.declared.rejection.Rejection.{Rejection}
 use Rattle.vme_judge.specs.declared.run.Kind.{Kind}
 use Rattle.vme_judge.specs.declared.run.Kind.TheVariants as kinds
 use Rattle.vme_judge.specs.declared.run.Run.{Run}
 use Rattle.vme_judge.specs.Blanks.{AreBlanks, BeginsDump, IsBlankSoFar, ReadsBlanks, SkipsBlanks, TakesBlanks, TakesFirst, TakesFurther, blanks_whole, line_past}
-use Rattle.vme_judge.specs.DumpRuns.{InHeader, IsDumpJudgedAs, TakesDump, dump_at, dump_so_far, text_whole}
+use Rattle.vme_judge.specs.DumpRuns.{InHeader, TakesDump, dump_at, dump_so_far, text_whole}
 use Rattle.vme_judge.specs.Dumps.{DumpSoFar}
 use Rattle.vme_judge.specs.DumpTexts.{after_blanks, header_judged, long_blanks}
 use Rattle.vme_judge.specs.Logs.{NoLine}
-use Rattle.vme_judge.specs.Runs.{cause_of, form_after, IsGoing, IsOnceRun}
-use Rattle.vme_judge.specs.Standing.{standing, IsOnce, IsStanding}
+use Rattle.vme_judge.specs.Runs.{cause_of, form_after, IsGoing}
+use Rattle.vme_judge.specs.Standing.{standing, stands}
 use Rattle.vme_judge.specs.Verdicts.{is_space}
 use Rattle.vme_judge.proofs.BlankLines.{blank_first, blanks_on, dump_blank}
 use Rattle.vme_judge.proofs.DumpHeaders.{goes_as}
-use Rattle.vme_judge.proofs.DumpRuns.{rejects_once, text_broken}
+use Rattle.vme_judge.proofs.DumpRuns.{text_broken}
 
 -- each of blanks is one
 pub blank_at : (bytes : List ℕ) (i d : ℕ) → AreBlanks bytes → i < length bytes → is_space (get_or bytes i d) ≡ true
@@ -53,15 +52,15 @@ line_more bytes i d line next last less is was =
     ap (line_past (drop (i + 1) bytes)) is ∙ ap (λ bytes. line_past bytes line) (sym (drop_more bytes i d less)) ∙ was
 
 -- blanks before the first word of a header
-header_blanks : (o : Options) (map : Map) (d : DumpSoFar) (ds : List Declaration) (line : ℕ) (blanks rest : List ℕ) → AreBlanks blanks
-    → header_judged o map d ds (Goes beginning) line line (blanks ++ rest)
-    ≡ header_judged o map d ds (Goes beginning) (line_past blanks line) (line_past blanks line) rest
-header_blanks o map d ds line [] rest are = refl
-header_blanks o map d ds line (b ∷ blanks) rest are =
+header_blanks : (map : Map) (d : DumpSoFar) (ds : List Declaration) (line : ℕ) (blanks rest : List ℕ) → AreBlanks blanks
+    → header_judged map d ds (Goes beginning) line line (blanks ++ rest)
+    ≡ header_judged map d ds (Goes beginning) (line_past blanks line) (line_past blanks line) rest
+header_blanks map d ds line [] rest are = refl
+header_blanks map d ds line (b ∷ blanks) rest are =
     let first = blank_first b blanks are in
-    ap (λ out. header_judged o map d ds out line (line_after b line) (blanks ++ rest)) (begins_on b first.0)
-    ∙ goes_as o map d ds beginning line (line_after b line) (line_after b line) (blanks ++ rest)
-    ∙ header_blanks o map d ds (line_after b line) blanks rest first.1
+    ap (λ out. header_judged map d ds out line (line_after b line) (blanks ++ rest)) (begins_on b first.0)
+    ∙ goes_as map d ds beginning line (line_after b line) (line_after b line) (blanks ++ rest)
+    ∙ header_blanks map d ds (line_after b line) blanks rest first.1
 
 -- a run that has taken blanks has judged nothing
 pub same_dump : (old new : Run) → new.judge ≡ old.judge → new.ports ≡ old.ports → new.rejection ≡ old.rejection → dump_so_far new ≡ dump_so_far old
@@ -73,13 +72,11 @@ same_dump old new judge ports rejection =
 -- the whole header does not depend on them
 text_same : (map : Map) (old new : Run) (line : ℕ) (rest : List ℕ) → new.judge ≡ old.judge → new.ports ≡ old.ports
     → new.rejection ≡ old.rejection → new.vcd.line ≡ line
-    → header_judged old.judge.options.now map (dump_so_far old) [] (Goes beginning) line line rest ≡ text_whole map new (InHeader beginning []) rest
+    → header_judged map (dump_so_far old) [] (Goes beginning) line line rest ≡ text_whole map new (InHeader beginning []) rest
 text_same map old new line rest judge ports rejection counts =
     sym (
-    ap (λ (j : Judge). header_judged j.options.now map (dump_so_far new) [] (Goes beginning) new.vcd.line new.vcd.line rest) judge
-    ∙ ap (λ d. header_judged old.judge.options.now map d [] (Goes beginning) new.vcd.line new.vcd.line rest)
-    (same_dump old new judge ports rejection)
-    ∙ ap (λ line. header_judged old.judge.options.now map (dump_so_far old) [] (Goes beginning) line line rest) counts
+    ap (λ d. header_judged map d [] (Goes beginning) new.vcd.line new.vcd.line rest) (same_dump old new judge ports rejection)
+    ∙ ap (λ line. header_judged map (dump_so_far old) [] (Goes beginning) line line rest) counts
     )
 
 -- the whole dump after blanks
@@ -91,7 +88,7 @@ whole_on map line old new bytes rest reads are judge ports counts =
     ∙ ap (λ d. after_blanks (long_blanks (length reads.after) new.log.number rest) d (text_whole map old (InHeader beginning []) (bytes ++ rest)))
     (sym (same_dump old new judge ports reads.rejection))
     ∙ ap (after_blanks (long_blanks (length reads.after) new.log.number rest) (dump_so_far new))
-    (header_blanks old.judge.options.now map (dump_so_far old) [] old.vcd.line bytes rest are
+    (header_blanks map (dump_so_far old) [] old.vcd.line bytes rest are
     ∙ text_same map old new (line_past bytes old.vcd.line) rest judge ports reads.rejection counts)
 
 -- the whole dump, if no blank is left
@@ -115,13 +112,11 @@ module _ (map : Map) (line : List ℕ) (old mid new : Run) (bytes blanks text : 
       ∙ whole_on map line old mid blanks (text ++ rest) reads are skips.judge skips.ports counts
       ∙ whole_first map reads.after mid text rest first
 
-  -- a run that has found nothing before blanks has found nothing after them
-  pub going_on : (skips : TakesBlanks line old mid blanks true) → IsOnceRun old → IsGoing old → IsOnceRun mid × IsGoing mid
-  going_on skips once going =
-      let reads = skips.reads refl in (
-        (subst IsOnce (sym skips.judge) once.0, λ none. reads.rejection ∙ going.1),
-        (subst (λ (j : Judge). IsStanding (standing j)) (sym skips.judge) going.0, reads.rejection ∙ going.1),
-      )
+  -- a run that goes on before blanks goes on after them
+  pub going_on : (skips : TakesBlanks line old mid blanks true) → IsGoing old → IsGoing mid
+  going_on skips going =
+      ap (λ (r : Option Rejection). not (is_some r) && stands (standing mid.judge)) (skips.reads refl).rejection
+      ∙ ap (λ (j : Judge). not (is_some old.rejection) && stands (standing j)) skips.judge ∙ going
 
   -- the first bytes of a dump
   begun : (goes_on : Bool) (skips : TakesBlanks line old mid blanks true) → mid.vcd.line ≡ line_past blanks old.vcd.line → AreBlanks blanks
@@ -135,36 +130,33 @@ module _ (map : Map) (line : List ℕ) (old mid new : Run) (bytes blanks text : 
           unjudged = λ d was. reads.unjudged d (same_dump old mid skips.judge skips.ports (skips.reads refl).rejection ∙ was);
           judges = λ rest. whole_then skips counts are first parts rest ∙ reads.judges rest;
         };
-    stops = λ off rest.
-        subst (λ d. IsDumpJudgedAs d (dump_so_far new) (standing new.judge)) (sym (whole_then skips counts are first parts rest)) (takes.stops off rest);
-    stays = λ found fell. takes.stays found (ap (λ j. standing j) skips.judge ∙ fell);
-    once = λ once going. let had = going_on skips once going in takes.once had.0 had.1;
+    stops = λ off rest. whole_then skips counts are first parts rest ∙ takes.stops off rest;
   }
 
   -- the same by what the calls return
   pub dump_begun : (on : Bool) (result : Result Bool AllocError) → on ≡ true → TakesBlanks line old mid blanks on
-      → mid.vcd.line ≡ line_past blanks old.vcd.line → AreBlanks blanks → slice_get text 0 ≡ Some 36 → bytes ≡ blanks ++ text → IfOk result (TakesDump map mid new (InHeader beginning []) text)
+      → mid.vcd.line ≡ line_past blanks old.vcd.line → AreBlanks blanks → slice_get text 0 ≡ Some 36 → bytes ≡ blanks ++ text
+      → IsGoing old → (IsGoing mid → IfOk result (TakesDump map mid new (InHeader beginning []) text))
       → IfOk result (BeginsDump map line old new bytes)
-  dump_begun on (Err fault) went skips counts are first parts takes = tt
-  dump_begun on (Ok goes_on) went skips counts are first parts takes =
-      begun goes_on (subst (TakesBlanks line old mid blanks) went skips) counts are first parts takes
+  dump_begun on (Err fault) went skips counts are first parts going takes = tt
+  dump_begun on (Ok goes_on) went skips counts are first parts going takes =
+      let skipped = subst (TakesBlanks line old mid blanks) went skips in
+      begun goes_on skipped counts are first parts (takes (going_on skipped going))
 
 -- a run that rejects the blanks before a dump
-pub dump_barred : (map : Map) (line : List ℕ) (old new : Run) (bytes blanks text : List ℕ) (on : Bool) → on ≡ false
+pub dump_barred : (map : Map) (line : List ℕ) (old new : Run) (bytes blanks text : List ℕ) (on : Bool) → on ≡ false → IsGoing old
     → TakesBlanks line old new blanks on → bytes ≡ blanks ++ text → BeginsDump map line old new bytes false
-dump_barred map line old new bytes blanks text on off takes parts =
+dump_barred map line old new bytes blanks text on off going takes parts =
     let stops = takes.stops off in
     record {
       reads = λ on. absurd (false≢true on);
       stops = λ _ rest.
-          text_broken old new (blanks_whole map line old (bytes ++ rest)) (NoLine stops.number TooLong)
+          text_broken old new (blanks_whole map line old (bytes ++ rest)) (NoLine stops.number TooLong) going
           (ap (λ bytes. blanks_whole map line old (bytes ++ rest)) parts
           ∙ ap (blanks_whole map line old) (append_assoc blanks text rest)
           ∙ ap (λ long. after_blanks long (dump_so_far old) (text_whole map old (InHeader beginning []) (blanks ++ (text ++ rest))))
           (stops.lines (text ++ rest)))
           (stops.rejected, stops.cause) takes.judge;
-      stays = λ found fell. ap (λ j. standing j) takes.judge ∙ fell;
-      once = λ once going. (rejects_once old new takes.judge once going, λ on. absurd (false≢true on));
     }
 
 module _ (map : Map) (line : List ℕ) (old new : Run) (kind : Kind) (bytes : List ℕ) (goes_on : Bool) where
@@ -175,8 +167,6 @@ module _ (map : Map) (line : List ℕ) (old new : Run) (kind : Kind) (bytes : Li
         let reads = takes.reads on in
         record { after = reads.after; reading = reads.reading; unjudged = reads.unjudged; judges = reads.judges };
     stops = takes.stops;
-    stays = takes.stays;
-    once = takes.once;
   }
 
   -- nor what is taken of blanks

@@ -15,11 +15,10 @@ use Rattle.vme_vcd_reader.specs.Lines.{bytes_taken, list_of, shown_first}
 use Rattle.vme_vcd_reader.specs.Readers.{IsBrokenText, IsReading, ReportsSample, TakesLine, rows_of}
 use Rattle.vme_vcd_reader.specs.Samples.{before, samples_by, samples_of}
 use Rattle.vme_judge.specs.declared.run.Run.{Run}
-use Rattle.vme_judge.specs.DumpRuns.{DumpStays, HasReached, InBody, InHeader, IsDumpJudgedAs, IsUnjudged, JudgesDump, Reached, ReadsOn, TakesDump, TakesNext, dump_so_far, text_whole}
+use Rattle.vme_judge.specs.DumpRuns.{HasReached, InBody, InHeader, IsUnjudged, Reached, ReadsOn, TakesDump, TakesNext, dump_so_far, text_whole}
 use Rattle.vme_judge.specs.Dumps.{DumpSoFar}
 use Rattle.vme_judge.specs.Logs.{NoDump}
-use Rattle.vme_judge.specs.Runs.{IsGoing, IsOnceRun, cause_of}
-use Rattle.vme_judge.specs.Standing.{standing}
+use Rattle.vme_judge.specs.Runs.{IsGoing, cause_of, is_going}
 use Rattle.vme_judge.proofs.DumpRuns.{all_before, bytes_judged, bytes_rejected, first_before, first_reading, one_before, samples_first}
 
 -- a run has judged bytes of a dump up to those that are left
@@ -53,16 +52,14 @@ reads_more map old mid new reached bytes left line rest to is on = record {
 }
 
 -- a run that stops at some of the bytes that are left
-pub stops_at : (map : Map) (old mid new : Run) (reached : Reached) (bytes left line rest : List ℕ) (to : ReadsTo map old mid reached bytes left) → left ≡ line ++ rest
-    → ((more : List ℕ) → JudgesDump map mid new to.after (line ++ more)) → (more : List ℕ) → JudgesDump map old new reached (bytes ++ more)
+stops_at : (map : Map) (old mid new : Run) (reached : Reached) (bytes left line rest : List ℕ) (to : ReadsTo map old mid reached bytes left) → left ≡ line ++ rest
+    → ((more : List ℕ) → text_whole map mid to.after (line ++ more) ≡ dump_so_far new) → (more : List ℕ)
+    → text_whole map old reached (bytes ++ more) ≡ dump_so_far new
 stops_at map old mid new reached bytes left line rest to is stops more =
-    subst (λ d. IsDumpJudgedAs d (dump_so_far new) (standing new.judge))
-    (sym (
     to.judges more
     ∙ ap (λ left. text_whole map mid to.after (left ++ more)) is
     ∙ ap (text_whole map mid to.after) (append_assoc line rest more)
-    ))
-    (stops (rest ++ more))
+    ∙ stops (rest ++ more)
 
 -- bytes that are all taken
 pub reads_all : (map : Map) (old new : Run) (reached : Reached) (bytes left : List ℕ) → ReadsTo map old new reached bytes left → left ≡ [] → ReadsOn map old new reached bytes
@@ -110,15 +107,15 @@ bytes_samples rows (b ∷ bs) rest r after list is =
     samples_next rows bs rest after list (byte_taken rows r b) (byte_flaw r b) (λ r next list. bytes_samples rows bs rest r next list) is
 
 -- a run that takes a line of a body
-pub line_judged : (map : Map) (old new : Run) (v : VcdReader) (r : Reading) (text rest : List ℕ) (step : Step) (goes_on : Bool)
+line_judged : (map : Map) (old new : Run) (v : VcdReader) (r : Reading) (text rest : List ℕ) (step : Step) (goes_on : Bool)
     (line : TakesLine (rows_of old.vcd) r text rest step v) → rows_of v ≡ rows_of old.vcd
-    → ((shown : Option Shown) → ReportsSample shown step v → TakesNext (record old { vcd = v }) new shown goes_on)
+    → ((shown : Option Shown) → ReportsSample shown step v → TakesNext (record old { vcd = v }) new shown) → goes_on ≡ is_going new
     → TakesDump map old new (InBody r) line.line goes_on
-line_judged map old new v r text rest step goes_on line rows takes =
+line_judged map old new v r text rest step goes_on line rows takes goes =
     bytes_judged map old new v r line.after line.line line.shown goes_on
     (λ more. bytes_samples (rows_of old.vcd) line.line more r line.after (list_of line.shown) line.taken
     ∙ one_before line.shown (samples_of (rows_of old.vcd) line.after more))
-    line.reading rows (takes line.shown line.reports)
+    line.reading rows (takes line.shown line.reports) goes
 
 -- a run has taken a line at the start of a text
 pub record TakesOver (map : Map) (old new : Run) (reached : Reached) (text rest : List ℕ) (goes_on : Bool) : Type 0 where
@@ -153,49 +150,46 @@ no_error (Ok taken) b none fails = absurd (cc fails)
 pub line_reached : (map : Map) (old new : Run) (v : VcdReader) (reached : Reached) (text rest : List ℕ) (step : Step) (goes_on : Bool)
     → HasReached map reached old.vcd → (old.vcd.is_body ≡ false → ⊥)
     → ((r : Reading) → IsReading r old.vcd → TakesLine (rows_of old.vcd) r text rest step v) → rows_of v ≡ rows_of old.vcd
-    → ((shown : Option Shown) → ReportsSample shown step v → TakesNext (record old { vcd = v }) new shown goes_on)
+    → ((shown : Option Shown) → ReportsSample shown step v → TakesNext (record old { vcd = v }) new shown) → goes_on ≡ is_going new
     → TakesOver map old new reached text rest goes_on
-line_reached map old new v (InHeader h ds) text rest step goes_on is body says rows takes = absurd (body is.before.entered)
-line_reached map old new v (InBody r) text rest step goes_on is body says rows takes =
+line_reached map old new v (InHeader h ds) text rest step goes_on is body says rows takes goes = absurd (body is.before.entered)
+line_reached map old new v (InBody r) text rest step goes_on is body says rows takes goes =
     let line = says r is in
     record {
       line = line.line;
       text_is = line.text_is;
       some = line.some;
-      takes = line_judged map old new v r text rest step goes_on line rows takes;
+      takes = line_judged map old new v r text rest step goes_on line rows takes goes;
     }
 
 -- a run that rejects the text that is left, which has a body then
 pub text_rejected : (map : Map) (old new : Run) (reached : Reached) (text : List ℕ) (line : ℕ) (fault : VcdFault) (result : Result Bool AllocError)
-    → HasReached map reached old.vcd → (old.vcd.is_body ≡ false → ⊥)
+    → IsGoing old → HasReached map reached old.vcd → (old.vcd.is_body ≡ false → ⊥)
     → ((r : Reading) → IsReading r old.vcd → IsBrokenText (rows_of old.vcd) r text) → IfOk result (λ goes_on. goes_on ≡ false)
     → IfOk result (λ _. is_some new.rejection ≡ true)
     → IfOk result (λ _. cause_of new.rejection ≡ (if is_some old.rejection then cause_of old.rejection else NoDump line fault))
     → line ≡ old.vcd.line → fault ≡ TimeFalls → IfOk result (λ _. new.judge ≡ old.judge) → IfOk result (TakesDump map old new reached text)
-text_rejected map old new (InHeader h ds) text line fault result is body broken stops rejected cause same falls judge =
+text_rejected map old new (InHeader h ds) text line fault result going is body broken stops rejected cause same falls judge =
     absurd (body is.before.entered)
-text_rejected map old new (InBody r) text line fault result is body broken stops rejected cause same falls judge =
-    bytes_rejected map old new r text (time_flaw r.line) line fault result (broken r is) stops rejected cause (same ∙ is.line) falls judge
+text_rejected map old new (InBody r) text line fault result going is body broken stops rejected cause same falls judge =
+    bytes_rejected map old new r text (time_flaw r.line) line fault result going (broken r is) stops rejected cause (same ∙ is.line) falls judge
 
-module _ (map : Map) (first mid new : Run) (reached : Reached) (bytes left line rest : List ℕ) (goes_on : Bool) (to : ReadsTo map first mid reached bytes left) where
-  -- a run that stops at some of the bytes that are left
-  pub dump_stops : DumpStays first mid → (IsOnceRun first → IsGoing first → IsOnceRun mid × IsGoing mid) → left ≡ line ++ rest
-      → TakesDump map mid new to.after line goes_on → goes_on ≡ false → TakesDump map first new reached bytes false
-  dump_stops stays once is takes off = record {
-    reads = λ on. absurd (false≢true on);
-    stops = λ same. stops_at map first mid new reached bytes left line rest to is (takes.stops off);
-    stays = λ found fell. takes.stays found (stays found fell);
-    once = λ one going. let had = once one going in ((takes.once had.0 had.1).0, λ on. absurd (false≢true on));
-  }
+-- a run that stops at some of the bytes that are left
+pub dump_stops : (map : Map) (first mid new : Run) (reached : Reached) (bytes left line rest : List ℕ) (goes_on : Bool)
+    (to : ReadsTo map first mid reached bytes left) → left ≡ line ++ rest → TakesDump map mid new to.after line goes_on → goes_on ≡ false
+    → TakesDump map first new reached bytes false
+dump_stops map first mid new reached bytes left line rest goes_on to is takes off = record {
+  reads = λ on. absurd (false≢true on);
+  stops = λ same. stops_at map first mid new reached bytes left line rest to is (takes.stops off);
+}
 
 -- a run that rejects the bytes that are left
 pub dump_refused : (map : Map) (first mid new : Run) (reached : Reached) (bytes left : List ℕ) (result : Result Bool AllocError) (to : ReadsTo map first mid reached bytes left)
-    → DumpStays first mid → (IsOnceRun first → IsGoing first → IsOnceRun mid × IsGoing mid) → IfOk result (TakesDump map mid new to.after left)
-    → IfOk result (λ goes_on. goes_on ≡ false) → IfOk result (TakesDump map first new reached bytes)
-dump_refused map first mid new reached bytes left (Err fault) to stays once takes off = tt
-dump_refused map first mid new reached bytes left (Ok true) to stays once takes off = absurd (cc off)
-dump_refused map first mid new reached bytes left (Ok false) to stays once takes off =
-    dump_stops map first mid new reached bytes left left [] false to stays once (sym (append-nil left)) takes refl
+    → IfOk result (TakesDump map mid new to.after left) → IfOk result (λ goes_on. goes_on ≡ false) → IfOk result (TakesDump map first new reached bytes)
+dump_refused map first mid new reached bytes left (Err fault) to takes off = tt
+dump_refused map first mid new reached bytes left (Ok true) to takes off = absurd (cc off)
+dump_refused map first mid new reached bytes left (Ok false) to takes off =
+    dump_stops map first mid new reached bytes left left [] false to (sym (append-nil left)) takes refl
 
 -- a line is one byte at least
 line_left : (text line rest : List ℕ) (step all : ℕ) → text ≡ line ++ rest → 0 < length line → length text + step ≤ all
@@ -205,33 +199,24 @@ line_left text line rest step all is some left = omega (arith, length-append lin
 -- a run that goes on after a line of the bytes that are left
 pub record GoesOver (map : Map) (first new : Run) (reached : Reached) (bytes rest : List ℕ) (step : ℕ) : Type 0 where
   pub reads : ReadsTo map first new reached bytes rest
-  pub stays : DumpStays first new
-  pub once : IsOnceRun first → IsGoing first → IsOnceRun new × IsGoing new
   pub left : length rest + step ≤ length bytes
 
-module _ (map : Map) (first mid new : Run) (reached : Reached) (bytes text line rest : List ℕ) (step : ℕ) (goes_on : Bool) (to : ReadsTo map first mid reached bytes text) where
-  -- the same, from what was judged before the line
-  pub line_over : DumpStays first mid → (IsOnceRun first → IsGoing first → IsOnceRun mid × IsGoing mid) → length text + step ≤ length bytes
-      → text ≡ line ++ rest → 0 < length line → TakesDump map mid new to.after line goes_on → goes_on ≡ true
-      → GoesOver map first new reached bytes rest (step + 1)
-  line_over stays once left is some takes on = record {
-    reads = reads_more map first mid new reached bytes text line rest to is (takes.reads on);
-    stays = λ found fell. takes.stays found (stays found fell);
-    once = λ one going.
-        let had = once one going in
-        let now = takes.once had.0 had.1 in
-        (now.0, now.1 on);
-    left = line_left text line rest step (length bytes) is some left;
-  }
+-- the same, from what was judged before the line
+pub line_over : (map : Map) (first mid new : Run) (reached : Reached) (bytes text line rest : List ℕ) (step : ℕ) (goes_on : Bool)
+    (to : ReadsTo map first mid reached bytes text) → length text + step ≤ length bytes → text ≡ line ++ rest → 0 < length line
+    → TakesDump map mid new to.after line goes_on → goes_on ≡ true → GoesOver map first new reached bytes rest (step + 1)
+line_over map first mid new reached bytes text line rest step goes_on to left is some takes on = record {
+  reads = reads_more map first mid new reached bytes text line rest to is (takes.reads on);
+  left = line_left text line rest step (length bytes) is some left;
+}
 
 -- a run that goes on after the first of the bytes that are left
 pub byte_over : (map : Map) (first mid new : Run) (reached : Reached) (bytes text tail : List ℕ) (step : ℕ) (goes_on : Bool)
-    (to : ReadsTo map first mid reached bytes text) → DumpStays first mid → (IsOnceRun first → IsGoing first → IsOnceRun mid × IsGoing mid)
-    → length text + step ≤ length bytes → 1 ≤ length text → tail ≡ drop 1 text
+    (to : ReadsTo map first mid reached bytes text) → length text + step ≤ length bytes → 1 ≤ length text → tail ≡ drop 1 text
     → TakesDump map mid new to.after (slice_index text 0 ∷ []) goes_on → goes_on ≡ true → GoesOver map first new reached bytes tail (step + 1)
-byte_over map first mid new reached bytes text tail step goes_on to stays once left some is takes on =
+byte_over map first mid new reached bytes text tail step goes_on to left some is takes on =
     subst (λ rest. GoesOver map first new reached bytes rest (step + 1)) (sym is)
-    (line_over map first mid new reached bytes text (slice_index text 0 ∷ []) (drop 1 text) step goes_on to stays once left
+    (line_over map first mid new reached bytes text (slice_index text 0 ∷ []) (drop 1 text) step goes_on to left
     (first_byte text some) (omega arith) takes on)
 
 -- no bytes are left
@@ -240,11 +225,9 @@ empty [] none = refl
 empty (b ∷ bs) none = absurd (grind arith)
 
 -- a run that has taken all bytes of a dump
-pub dump_read : (map : Map) (old new : Run) (reached : Reached) (bytes left : List ℕ) → ReadsTo map old new reached bytes left → DumpStays old new
-    → (IsOnceRun old → IsGoing old → IsOnceRun new × IsGoing new) → length left < 1 → TakesDump map old new reached bytes true
-dump_read map old new reached bytes left to stays once none = record {
+pub dump_read : (map : Map) (old new : Run) (reached : Reached) (bytes left : List ℕ) → ReadsTo map old new reached bytes left
+    → length left < 1 → TakesDump map old new reached bytes true
+dump_read map old new reached bytes left to none = record {
   reads = λ on. reads_all map old new reached bytes left to (empty left none);
   stops = λ off. absurd (false≢true (sym off));
-  stays = stays;
-  once = λ one going. let had = once one going in (had.0, λ on. had.1);
 }

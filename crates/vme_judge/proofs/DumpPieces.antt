@@ -1,5 +1,6 @@
 -- A dump that is judged piece by piece, from the text to the status.
 use Rattle.std.proofs.Common.{◌≡◌, ℕ, Bool, true, false, inl, inr, ◌⊎◌, List, [], ◌++◌, Option, Some, None, Result, Ok, Err, IfOk, refl, ap, sym, ◌∙◌}
+use Rattle.std.specs.Prelude.{string_bytes}
 use Rattle.std.specs.Io.KnownBytes.{Consumes}
 use Rattle.std.specs.declared.alloc.AllocError.{AllocError}
 use Rattle.std.specs.declared.alloc.Global.{Global}
@@ -12,14 +13,17 @@ use Rattle.vme_judge.specs.declared.run.Kind.{Kind}
 use Rattle.vme_judge.specs.declared.run.Kind.TheVariants as kinds
 use Rattle.vme_judge.specs.declared.run.Run.{Run}
 use Rattle.vme_judge.specs.Blanks.{AreBlanks, IsAtStart, IsBlankSoFar, TakesFirst, TakesFurther, blanks_whole}
-use Rattle.vme_judge.specs.DumpRuns.{HasReached, InBody, InHeader, IsUnjudged, Reached, TakesDump, TakesPiece, dump_so_far, text_whole}
+use Rattle.vme_judge.specs.DumpRuns.{HasReached, InBody, InHeader, Reached, TakesDump, TakesPiece, dump_so_far, text_whole}
+use Rattle.vme_judge.specs.Dumps.{DumpSoFar}
 use Rattle.vme_judge.specs.DumpTexts.{after_blanks, dump_of, header_judged, long_blanks, unjudged}
-use Rattle.vme_judge.specs.Runs.{IsGoing, IsOnceRun, form_after, is_no_dump}
-use Rattle.vme_judge.specs.Standing.{standing}
+use Rattle.vme_judge.specs.Runs.{IsGoing, form_after, is_no_dump}
 use Rattle.vme_judge.specs.Verdicts.{is_log}
 use Rattle.vme_judge.proofs.Blanks.{fresh}
-use Rattle.vme_judge.proofs.DumpBlanks.{going_on, same_dump, whole_on}
+use Rattle.vme_judge.proofs.DumpBlanks.{going_on, whole_on}
+use Rattle.vme_judge.proofs.DumpRuns.{going_is, is_legal}
+use Rattle.vme_judge.proofs.DumpSaying.{blanks_written, both_first, dump_first, nothing_first, text_written, written}
 use Rattle.vme_judge.proofs.Pieces.{form_on, log_form}
+use Rattle.vme_judge.proofs.Runs.{going_written}
 
 -- bytes of a dump whose form was known
 pub piece_known : (map : Map) (old new : Run) (reached : Reached) (bytes : List ℕ) (result : Result Bool AllocError)
@@ -28,34 +32,31 @@ pub piece_known : (map : Map) (old new : Run) (reached : Reached) (bytes : List 
 piece_known map old new reached bytes (Err fault) takes stays is = tt
 piece_known map old new reached bytes (Ok goes_on) takes stays is = (stays ∙ is, takes)
 
--- a run is before the first byte of a dump that is no blank
-pub record IsDumpAhead (o : Options) (map : Map) (boards : List Board) (text rest : List ℕ) (run : Run) : Type 0 where
+-- a run is before the first byte of a dump that is no blank; this was written
+pub record IsDumpAhead (o : Options) (map : Map) (boards : List Board) (text rest w : List ℕ) (run : Run) : Type 0 where
   pub kind : run.kind ≡ kinds.Unknown
   pub form : form_after kinds.Unknown rest ≡ kinds.Dump
   pub line : List ℕ
   pub blanks : IsBlankSoFar map line run
-  pub none : dump_so_far run ≡ unjudged o boards
-  pub judged : dump_of o map boards text ≡ blanks_whole map line run rest
-  pub once : o.limit ≡ 1 → IsOnceRun run × IsGoing run
+  pub judged : dump_of o map boards text ≡ dump_first w (blanks_whole map line run rest)
+  pub going : IsGoing run
 
--- a run has judged a dump up to the rest of its text
-pub record IsDumpBetween (o : Options) (map : Map) (boards : List Board) (text rest : List ℕ) (run : Run) : Type 0 where
+-- a run has judged a dump up to the rest of its text; this was written
+pub record IsDumpBetween (o : Options) (map : Map) (boards : List Board) (text rest w : List ℕ) (run : Run) : Type 0 where
   pub kind : run.kind ≡ kinds.Dump
   pub reached : Reached
   pub reading : HasReached map reached run.vcd
-  pub none : IsUnjudged (unjudged o boards) reached run
-  pub judged : dump_of o map boards text ≡ text_whole map run reached rest
-  pub once : o.limit ≡ 1 → IsOnceRun run × IsGoing run
+  pub judged : dump_of o map boards text ≡ dump_first w (text_whole map run reached rest)
 
 -- a run is before a dump or within it
-abbrev pub IsDumpAt : Options → Map → List Board → List ℕ → List ℕ → Run → Type 0
-IsDumpAt o map boards text rest run = IsDumpAhead o map boards text rest run ⊎ IsDumpBetween o map boards text rest run
+abbrev pub IsDumpAt : Options → Map → List Board → List ℕ → List ℕ → List ℕ → Run → Type 0
+IsDumpAt o map boards text rest w run = IsDumpAhead o map boards text rest w run ⊎ IsDumpBetween o map boards text rest w run
 
--- a run has judged a reader's bytes up to those that are left, if they are known and are no log
-abbrev pub DumpBetween : Options → Map → List Board → Option (List ℕ) → Option (List ℕ) → Run → Type 0
-DumpBetween o map boards None left run = Unit {0}
-DumpBetween o map boards (Some text) None run = ⊥
-DumpBetween o map boards (Some text) (Some rest) run = is_log text ≡ false → IsDumpAt o map boards text rest run
+-- a run has judged a reader's bytes up to those that are left, if they are known and are no log; this was written
+abbrev pub DumpBetween : Options → Map → List Board → Option (List ℕ) → Option (List ℕ) → List ℕ → Run → Type 0
+DumpBetween o map boards None left w run = Unit {0}
+DumpBetween o map boards (Some text) None w run = ⊥
+DumpBetween o map boards (Some text) (Some rest) w run = is_log text ≡ false → IsDumpAt o map boards text rest w run
 
 -- a text that is no log is a dump
 is_dump : (kind : Kind) → is_no_dump kind ≡ false → kind ≡ kinds.Dump
@@ -65,72 +66,76 @@ is_dump kinds.Unknown is = absurd (cc is)
 
 -- a run before the first byte
 pub dump_begins : (o : Options) (map : Map) (boards : List Board) (whole : Option (List ℕ)) (run : Run)
-    → dump_so_far run ≡ unjudged o boards → IsGoing run → run.judge.options.now ≡ o → run.judge.found ≡ 0
-    → IsAtStart map run.vcd → run.log.line ≡ [] → run.log.number ≡ 1 → run.kind ≡ kinds.Unknown → DumpBetween o map boards whole whole run
+    → dump_so_far run ≡ unjudged o boards → IsAtStart map run.vcd → run.log.line ≡ [] → run.log.number ≡ 1 → run.kind ≡ kinds.Unknown
+    → DumpBetween o map boards whole whole [] run
 unfolding dump_of
-dump_begins o map boards None run opens going options found header line number kind = tt
-dump_begins o map boards (Some text) run opens going options found start line number kind = λ dump. inl (record {
+dump_begins o map boards None run opens start line number kind = tt
+dump_begins o map boards (Some text) run opens start line number kind = λ dump. inl (record {
   kind = kind;
   form = is_dump (form_after kinds.Unknown text) (sym (log_form text) ∙ dump);
   line = [];
   blanks = record { reader = start.0; begin = fresh run.log line };
-  none = opens;
   judged =
-      ap (λ d. after_blanks (long_blanks 0 1 text) d (header_judged o map d [] (Goes beginning) 1 1 text)) (sym opens)
+      ap (λ d. after_blanks (long_blanks 0 1 text) d (header_judged map d [] (Goes beginning) 1 1 text)) (sym opens)
       ∙ ap (λ number. after_blanks (long_blanks 0 number text) (dump_so_far run)
-      (header_judged o map (dump_so_far run) [] (Goes beginning) 1 1 text)) (sym number)
-      ∙ ap (after_blanks (long_blanks 0 run.log.number text) (dump_so_far run)) (
-      ap (λ o. header_judged o map (dump_so_far run) [] (Goes beginning) 1 1 text) (sym options)
-      ∙ ap (λ line. header_judged run.judge.options.now map (dump_so_far run) [] (Goes beginning) line line text) (sym start.1)
-      );
-  once = λ one. (((ap (λ (o : Options). o.limit) options ∙ one, found), λ none. going.1), going);
+      (header_judged map (dump_so_far run) [] (Goes beginning) 1 1 text)) (sym number)
+      ∙ ap (λ line. after_blanks (long_blanks 0 run.log.number text) (dump_so_far run)
+      (header_judged map (dump_so_far run) [] (Goes beginning) line line text)) (sym start.1)
+      ∙ nothing_first (blanks_whole map [] run text);
+  going = going_is run ∙ ap is_legal opens;
 })
 
-module _ (o : Options) (map : Map) (boards : List Board) (text rest : List ℕ) (run : Run) (pending : String Global) where
+module _ (o : Options) (map : Map) (boards : List Board) (text rest w : List ℕ) (run : Run) (pending : String Global) (empty : string_bytes pending ≡ []) where
+  -- what is written comes before what is said then
+  first_written : (whole after : DumpSoFar) → dump_of o map boards text ≡ dump_first w whole
+      → whole ≡ dump_first (string_bytes run.judge.pending) after
+      → dump_of o map boards text ≡ dump_first (w ++ string_bytes run.judge.pending) after
+  first_written whole after judged is = judged ∙ ap (dump_first w) is ∙ both_first w (string_bytes run.judge.pending) after
+
   -- what is written does not change what is judged, by how far the dump is read
   written_by : run.kind ≡ kinds.Dump → (reached : Reached) → HasReached map reached run.vcd
-      → IsUnjudged (unjudged o boards) reached run → dump_of o map boards text ≡ text_whole map run reached rest
-      → (o.limit ≡ 1 → IsOnceRun run × IsGoing run)
-      → IsDumpBetween o map boards text rest (record run { judge = record run.judge { pending = pending } })
-  unfolding standing
-  written_by kind (InHeader h ds) reading none judged once = record {
+      → dump_of o map boards text ≡ dump_first w (text_whole map run reached rest)
+      → IsDumpBetween o map boards text rest (w ++ string_bytes run.judge.pending) (written run pending)
+  written_by kind (InHeader h ds) reading judged = record {
     kind = kind;
     reached = InHeader h ds;
     reading = reading;
-    none = none;
-    judged = judged;
-    once = once;
+    judged =
+        first_written (text_whole map run (InHeader h ds) rest) (text_whole map (written run pending) (InHeader h ds) rest) judged
+        (text_written run pending empty map (InHeader h ds) rest);
   }
-  written_by kind (InBody r) reading none judged once = record {
+  written_by kind (InBody r) reading judged = record {
     kind = kind;
     reached = InBody r;
     reading = reading;
-    none = none;
-    judged = judged;
-    once = once;
+    judged =
+        first_written (text_whole map run (InBody r) rest) (text_whole map (written run pending) (InBody r) rest) judged
+        (text_written run pending empty map (InBody r) rest);
   }
 
   -- nor before a dump
-  written_at : IsDumpAt o map boards text rest run → IsDumpAt o map boards text rest (record run { judge = record run.judge { pending = pending } })
-  unfolding standing
+  written_at : IsDumpAt o map boards text rest w run
+      → IsDumpAt o map boards text rest (w ++ string_bytes run.judge.pending) (written run pending)
   written_at (inl is) = inl (record {
     kind = is.kind;
     form = is.form;
     line = is.line;
     blanks = record { reader = is.blanks.reader; begin = is.blanks.begin };
-    none = is.none;
-    judged = is.judged;
-    once = is.once;
+    judged =
+        first_written (blanks_whole map is.line run rest) (blanks_whole map is.line (written run pending) rest) is.judged
+        (blanks_written run pending empty map is.line rest);
+    going = going_written run pending ∙ is.going;
   })
-  written_at (inr is) = inr (written_by is.kind is.reached is.reading is.none is.judged is.once)
+  written_at (inr is) = inr (written_by is.kind is.reached is.reading is.judged)
 
 -- what is written does not change what is judged
-pub dump_written : (o : Options) (map : Map) (boards : List Board) (whole left : Option (List ℕ)) (run : Run) (pending : String Global)
-    → DumpBetween o map boards whole left run
-    → DumpBetween o map boards whole left (record run { judge = record run.judge { pending = pending } })
-dump_written o map boards None left run pending between = tt
-dump_written o map boards (Some text) None run pending between = between
-dump_written o map boards (Some text) (Some rest) run pending between = λ dump. written_at o map boards text rest run pending (between dump)
+pub dump_written : (o : Options) (map : Map) (boards : List Board) (whole left : Option (List ℕ)) (w : List ℕ) (run : Run) (pending : String Global)
+    → string_bytes pending ≡ [] → DumpBetween o map boards whole left w run
+    → DumpBetween o map boards whole left (w ++ string_bytes run.judge.pending) (record run { judge = record run.judge { pending = pending } })
+dump_written o map boards None left w run pending empty between = tt
+dump_written o map boards (Some text) None w run pending empty between = between
+dump_written o map boards (Some text) (Some rest) w run pending empty between = λ dump.
+    written_at o map boards text rest w run pending empty (between dump)
 
 -- what a run takes of a piece: further blanks, the first bytes of a dump, or more of it
 pub record TakesAny (map : Map) (run new : Run) (piece : List ℕ) (goes_on : Bool) : Type 0 where
@@ -141,38 +146,28 @@ pub record TakesAny (map : Map) (run new : Run) (piece : List ℕ) (goes_on : Bo
   pub dump : (reached : Reached) → run.kind ≡ kinds.Dump → HasReached map reached run.vcd → TakesPiece map run new reached piece goes_on
 
 -- a piece of a dump after which the run goes on
-piece_read : (o : Options) (map : Map) (boards : List Board) (run new : Run) (text rest piece next : List ℕ)
-    (is : IsDumpBetween o map boards text rest run) → rest ≡ piece ++ next → TakesPiece map run new is.reached piece true
-    → IsDumpBetween o map boards text next new
-piece_read o map boards run new text rest piece next is same takes =
+piece_read : (o : Options) (map : Map) (boards : List Board) (run new : Run) (text rest piece next w : List ℕ)
+    (is : IsDumpBetween o map boards text rest w run) → rest ≡ piece ++ next → TakesPiece map run new is.reached piece true
+    → IsDumpBetween o map boards text next w new
+piece_read o map boards run new text rest piece next w is same takes =
     let on = takes.1.reads refl in
     record {
       kind = takes.0;
       reached = on.after;
       reading = on.reading;
-      none = on.unjudged (unjudged o boards) is.none;
-      judged = is.judged ∙ ap (text_whole map run is.reached) same ∙ on.judges next;
-      once = λ one.
-          let was = is.once one in
-          let now = takes.1.once was.0 was.1 in
-          (now.0, now.1 refl);
+      judged = is.judged ∙ ap (dump_first w) (ap (text_whole map run is.reached) same ∙ on.judges next);
     }
 
-module _ (o : Options) (map : Map) (boards : List Board) (run new : Run) (text rest piece next : List ℕ) (is : IsDumpAhead o map boards text rest run) (same : rest ≡ piece ++ next) where
+module _ (o : Options) (map : Map) (boards : List Board) (run new : Run) (text rest piece next w : List ℕ) (is : IsDumpAhead o map boards text rest w run) (same : rest ≡ piece ++ next) where
   -- the first bytes of a dump after which the run goes on
-  first_read : TakesFirst map is.line run new piece true → IsDumpBetween o map boards text next new
+  first_read : TakesFirst map is.line run new piece true → IsDumpBetween o map boards text next w new
   first_read takes =
       let on = takes.1.reads refl in
       record {
         kind = takes.0;
         reached = on.after;
         reading = on.reading;
-        none = on.unjudged (unjudged o boards) is.none;
-        judged = is.judged ∙ ap (blanks_whole map is.line run) same ∙ on.judges next;
-        once = λ one.
-            let was = is.once one in
-            let now = takes.1.once was.0 was.1 in
-            (now.0, now.1 refl);
+        judged = is.judged ∙ ap (dump_first w) (ap (blanks_whole map is.line run) same ∙ on.judges next);
       }
 
   -- the form after what is left
@@ -180,7 +175,7 @@ module _ (o : Options) (map : Map) (boards : List Board) (run new : Run) (text r
   form_left = sym (form_on kinds.Unknown piece next) ∙ ap (form_after kinds.Unknown) (sym same) ∙ is.form
 
   -- blanks after which the run goes on
-  further_read : AreBlanks piece → TakesFurther map is.line run new piece true → IsDumpAhead o map boards text next new
+  further_read : AreBlanks piece → TakesFurther map is.line run new piece true → IsDumpAhead o map boards text next w new
   further_read are takes =
       let skips = takes.1.takes in
       let reads = skips.reads refl in
@@ -189,33 +184,34 @@ module _ (o : Options) (map : Map) (boards : List Board) (run new : Run) (text r
         form = ap (λ kind. form_after kind next) (sym are) ∙ form_left;
         line = reads.after;
         blanks = record { reader = takes.1.reader; begin = reads.begin };
-        none = same_dump run new skips.judge skips.ports reads.rejection ∙ is.none;
-        judged = is.judged ∙ ap (blanks_whole map is.line run) same ∙ whole_on map is.line run new piece next reads are skips.judge skips.ports takes.1.counts;
-        once = λ one.
-            let was = is.once one in
-            going_on map is.line run new new piece piece piece skips was.0 was.1;
+        judged =
+            is.judged
+            ∙ ap (dump_first w)
+            (ap (blanks_whole map is.line run) same
+            ∙ whole_on map is.line run new piece next reads are skips.judge skips.ports takes.1.counts);
+        going = going_on map is.line run new new piece piece piece skips is.going;
       }
 
   -- a piece after which the run goes on, by the form of what is read then
-  ahead_read : (kind : Kind) → form_after kinds.Unknown piece ≡ kind → TakesAny map run new piece true → IsDumpAt o map boards text next new
+  ahead_read : (kind : Kind) → form_after kinds.Unknown piece ≡ kind → TakesAny map run new piece true → IsDumpAt o map boards text next w new
   ahead_read kinds.Dump form takes = inr (first_read (takes.first is.line is.kind form is.blanks))
   ahead_read kinds.Log form takes = absurd (let log : kinds.Log ≡ kinds.Dump = ap (λ kind. form_after kind next) (sym form) ∙ form_left in cc log)
   ahead_read kinds.Unknown form takes = inl (further_read form (takes.blanks is.line is.kind form is.blanks))
 
 -- a piece after which the run goes on
-read_at : (o : Options) (map : Map) (boards : List Board) (run new : Run) (text rest piece next : List ℕ) → IsDumpAt o map boards text rest run
-    → rest ≡ piece ++ next → TakesAny map run new piece true → IsDumpAt o map boards text next new
-read_at o map boards run new text rest piece next (inl is) same takes =
-    ahead_read o map boards run new text rest piece next is same (form_after kinds.Unknown piece) refl takes
-read_at o map boards run new text rest piece next (inr is) same takes =
-    inr (piece_read o map boards run new text rest piece next is same (takes.dump is.reached is.kind is.reading))
+read_at : (o : Options) (map : Map) (boards : List Board) (run new : Run) (text rest piece next w : List ℕ) → IsDumpAt o map boards text rest w run
+    → rest ≡ piece ++ next → TakesAny map run new piece true → IsDumpAt o map boards text next w new
+read_at o map boards run new text rest piece next w (inl is) same takes =
+    ahead_read o map boards run new text rest piece next w is same (form_after kinds.Unknown piece) refl takes
+read_at o map boards run new text rest piece next w (inr is) same takes =
+    inr (piece_read o map boards run new text rest piece next w is same (takes.dump is.reached is.kind is.reading))
 
 -- a reader's piece after which the run goes on
-pub dump_more : (o : Options) (map : Map) (boards : List Board) (whole left next : Option (List ℕ)) (run new : Run) (piece : List ℕ)
-    → DumpBetween o map boards whole left run → Consumes left next piece → TakesAny map run new piece true
-    → DumpBetween o map boards whole next new
-dump_more o map boards None left next run new piece between is takes = tt
-dump_more o map boards (Some text) None next run new piece between is takes = absurd between
-dump_more o map boards (Some text) (Some rest) None run new piece between is takes = absurd is
-dump_more o map boards (Some text) (Some rest) (Some next) run new piece between is takes = λ dump.
-    read_at o map boards run new text rest piece next (between dump) is takes
+pub dump_more : (o : Options) (map : Map) (boards : List Board) (whole left next : Option (List ℕ)) (w : List ℕ) (run new : Run) (piece : List ℕ)
+    → DumpBetween o map boards whole left w run → Consumes left next piece → TakesAny map run new piece true
+    → DumpBetween o map boards whole next w new
+dump_more o map boards None left next w run new piece between is takes = tt
+dump_more o map boards (Some text) None next w run new piece between is takes = absurd between
+dump_more o map boards (Some text) (Some rest) None w run new piece between is takes = absurd is
+dump_more o map boards (Some text) (Some rest) (Some next) w run new piece between is takes = λ dump.
+    read_at o map boards run new text rest piece next w (between dump) is takes

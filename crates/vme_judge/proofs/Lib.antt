@@ -2,11 +2,16 @@ mod Appends
 mod Joins
 mod Names
 pub mod Samples
+pub mod Printing
+pub mod Saying
+pub mod LogSaying
+pub mod Over
 pub mod Logs
 pub mod Runs
 pub mod Pieces
 pub mod Ends
 pub mod Endings
+pub mod Progress
 pub mod Dumps
 pub mod DumpSamples
 pub mod DumpRuns
@@ -17,4 +22,5 @@ pub mod Blanks
 pub mod DumpBlanks
 pub mod DumpPieces
 pub mod DumpWholes
+pub mod DumpSaying
 pub mod DumpEnds

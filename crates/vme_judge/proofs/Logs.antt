@@ -1,22 +1,22 @@
 -- The samples of a line of a log, taken one after another.
-use Rattle.std.proofs.Common.{◌≡◌, ℕ, ◌+◌, ◌<◌, Bool, true, false, suc, List, [], ◌∷◌, length, get_or, drop, drop-cons, add-one, Option, None, Result, Ok, Err, IfOk, refl, ap, sym, ◌∙◌}
+use Rattle.std.proofs.Common.{◌≡◌, ℕ, ◌+◌, ◌<◌, Bool, true, false, suc, List, [], ◌∷◌, length, get_or, drop, drop-cons, add-one, Option, Some, None, Result, Ok, Err, IfOk, refl, ap, sym, ◌∙◌}
 use Rattle.vme_protocol.specs.declared.sample.Sample.{Sample}
 use Rattle.vme_bus_log.specs.declared.entry.LogDatum.{LogDatum}
 use Rattle.vme_judge.specs.declared.judge.Spot.{Spot}
 use Rattle.std.specs.Prelude.{if◌then◌else◌}
-use Rattle.vme_judge.specs.Logs.{Cause, addressed_by, begun_by, shown_by, so_far}
+use Rattle.vme_judge.specs.Logs.{addressed_by, begun_by, log_by, shown_by}
 use Rattle.vme_judge.specs.Samples.{handshake_samples, quiet}
-use Rattle.vme_judge.specs.Standing.{Course, Falls, HasFallen, IsStanding, Standing, Stands, course_map, course_then, sample_taken, samples_taken, stands}
+use Rattle.vme_judge.specs.Standing.{Course, Falls, HasFallen, IsStanding, Standing, Stands, course_map, course_then, resumed, sample_taken, samples_taken, stands}
 
 -- one sample and those after it
 pub one_more : (spot : Spot) (s : Sample) (rest : List Sample) (c : Course)
     → course_then (samples_taken spot (s ∷ rest)) c ≡ course_then (samples_taken spot rest) (course_then (sample_taken spot None s) c)
-one_more spot s rest (Falls found) = refl
+one_more spot s rest (Falls finding m) = refl
 one_more spot s rest (Stands m) = refl
 
 -- one thing after another
 pub one_after : (f g : Standing → Course) (c : Course) → course_then g (course_then f c) ≡ course_then (λ m. course_then g (f m)) c
-one_after f g (Falls found) = refl
+one_after f g (Falls finding m) = refl
 one_after f g (Stands m) = refl
 
 -- the samples that are left after one more
@@ -29,41 +29,37 @@ left_after spot samples i s old new less is taken =
     ap (course_then (samples_taken spot (drop (i + 1) samples))) taken
     ∙ sym (ap (λ list. course_then (samples_taken spot list) old) next ∙ one_more spot s (drop (i + 1) samples) old)
 
--- a trace does not stand that is called illegal
-pub no_standing : (old new : Course) (legal : Bool) → legal ≡ false → (IsStanding old → legal ≡ stands new) → (HasFallen old → new ≡ old) → HasFallen new
-no_standing (Stands m) new legal illegal says same = sym (says refl) ∙ illegal
-no_standing (Falls found) new legal illegal says same = ap stands (same refl)
-
 -- a trace that has fallen takes nothing further
 pub then_fallen : (f : Standing → Course) (c : Course) → HasFallen c → course_then f c ≡ c
 then_fallen f (Stands m) fell = absurd (cc fell)
-then_fallen f (Falls found) fell = refl
+then_fallen f (Falls finding m) fell = refl
 
 -- nor is what is remembered of it changed
 pub map_fallen : (f : Standing → Standing) (c : Course) → HasFallen c → course_map f c ≡ c
 map_fallen f (Stands m) fell = absurd (cc fell)
-map_fallen f (Falls found) fell = refl
+map_fallen f (Falls finding m) fell = refl
 
 -- a trace after an illegal sample has fallen
 pub fell_after : (f : Standing → Course) (old new : Course) (legal : Bool) → legal ≡ false → new ≡ course_then f old
     → (IsStanding old → legal ≡ stands new) → HasFallen new
 fell_after f (Stands m) new legal illegal taken says = sym (says refl) ∙ illegal
-fell_after f (Falls found) new legal illegal taken says = ap stands taken
+fell_after f (Falls finding m) new legal illegal taken says = ap stands taken
 
 -- after an illegal sample of a list the others change nothing
 pub all_fallen : (spot : Spot) (samples : List Sample) (c all : Course) → HasFallen c → course_then (samples_taken spot samples) c ≡ all → c ≡ all
 all_fallen spot samples c all fell is = sym (then_fallen (samples_taken spot samples) c fell) ∙ is
 
--- a log after legal samples
-pub shown_legal : (cause : Cause) (c n : Course) (d : Option LogDatum) → c ≡ n → so_far false cause c d ≡ shown_by d n
-shown_legal cause (Falls found) n d is = ap (shown_by d) is
-shown_legal cause (Stands m) n d is = ap (shown_by d) is
+-- a datum after legal samples
+pub shown_legal : (d : LogDatum) (c n : Course) (last : Option LogDatum) → last ≡ Some d → IsStanding n → n ≡ c → log_by last n ≡ shown_by d c
+shown_legal d c (Falls finding m) last is stood same = absurd (cc stood)
+shown_legal d c (Stands m) last is stood same = ap (λ last. log_by last (Stands m)) is ∙ ap (shown_by d) same
 
--- a log after illegal ones
-pub shown_illegal : (c n : Course) (last d : Option LogDatum) (broken : Bool) (cause : Cause) → broken ≡ false → HasFallen c → c ≡ n
-    → so_far broken cause c last ≡ shown_by d n
-shown_illegal (Stands m) n last d broken cause whole fell is = absurd (cc fell)
-shown_illegal (Falls found) n last d broken cause whole fell is = ap (λ test. so_far test cause (Falls found) last) whole ∙ ap (shown_by d) is
+-- a datum after an illegal sample
+pub shown_illegal : (d : LogDatum) (c mid new : Course) (last : Option LogDatum) → last ≡ None → HasFallen mid → new ≡ resumed mid → mid ≡ c
+    → log_by last new ≡ shown_by d c
+shown_illegal d c (Stands m) new last is fell goes same = absurd (cc fell)
+shown_illegal d c (Falls finding m) new last is fell goes same =
+    ap (λ last. log_by last new) is ∙ ap (log_by None) goes ∙ ap (shown_by d) same
 
 -- a course after two parts, of which the second is taken after the first
 pub both_taken : (f g : Standing → Course) (old mid new : Course) → mid ≡ course_then f old → new ≡ course_then g mid
@@ -78,18 +74,18 @@ first_fallen f g old mid fell one = both_taken f g old mid mid one (sym (then_fa
 -- what is remembered after a part is changed
 pub map_taken : (f : Standing → Course) (g : Standing → Standing) (c : Course)
     → course_map g (course_then f c) ≡ course_then (λ m. course_map g (f m)) c
-map_taken f g (Falls found) = refl
+map_taken f g (Falls finding m) = refl
 map_taken f g (Stands m) = refl
 
 -- no samples change nothing
 then_none : (spot : Spot) (c : Course) → course_then (samples_taken spot []) c ≡ c
-then_none spot (Falls found) = refl
+then_none spot (Falls finding m) = refl
 then_none spot (Stands m) = refl
 
 -- a transfer without an address phase
 pub addressed_short : (spot : Spot) (d : LogDatum) (c : Course) → d.is_wide ≡ false
     → course_then (begun_by spot d) c ≡ course_then (addressed_by spot d) c
-addressed_short spot d (Falls found) short = refl
+addressed_short spot d (Falls finding m) short = refl
 addressed_short spot d (Stands m) short =
     sym (
     ap (λ wide. let samples : List Sample = if wide then handshake_samples d (quiet d false) true else [] in

@@ -1,213 +1,169 @@
 -- A log that is judged while it is read.
-use Rattle.std.proofs.Common.{◌≡◌, ℕ, Bool, true, false, ◌||◌, inl, inr, List, [], ◌∷◌, ◌++◌, append_assoc, append-nil, ◌≢◌, subst, Option, Result, Ok, Err, is_some, refl, ap, sym, ◌∙◌}
+use Rattle.std.proofs.Common.{◌≡◌, ℕ, Bool, true, false, not, ◌&&◌, List, [], ◌∷◌, ◌++◌, append_assoc, append-nil, Option, Some, None, Result, Ok, Err, IfOk, is_some, refl, ap, sym, ◌∙◌}
 use Rattle.std.specs.Prelude.{if◌then◌else◌}
-use Rattle.vme_bus_log.specs.declared.entry.LogAccess.{LogAccess}
+use Rattle.std.specs.declared.alloc.AllocError.{AllocError}
+use Rattle.std.specs.declared.alloc.Global.{Global}
+use Rattle.std.specs.declared.string.String.{String}
 use Rattle.vme_bus_log.specs.Faults.{Fault}
 use Rattle.vme_bus_log.specs.Texts.{log_says, Reading, SaysAs}
+use Rattle.vme_bus_log.specs.declared.entry.LogAccess.{LogAccess}
 use Rattle.vme_bus_log.specs.declared.entry.LogDatum.{LogDatum}
 use Rattle.vme_bus_log.specs.declared.entry.LogEntry.{LogEntry}
 use Rattle.vme_bus_log.specs.declared.entry.LogEntry.TheVariants as entries
+use Rattle.vme_judge.specs.declared.finding.Finding.{Finding}
 use Rattle.vme_judge.specs.declared.judge.Judge.{Judge}
-use Rattle.vme_judge.specs.declared.log.LogState.{LogState}
-use Rattle.vme_judge.specs.declared.log.Taken.{Taken}
-use Rattle.vme_judge.specs.declared.log.Taken.TheVariants as takens
+use Rattle.vme_judge.specs.declared.rejection.Rejection.{Rejection}
 use Rattle.vme_judge.specs.declared.run.Run.{Run}
 use Rattle.vme_judge.specs.Seen.{one_more}
-use Rattle.vme_judge.specs.Standing.{Course, Falls, Found, HasFallen, Standing, Stands, course_then, standing, stands}
-use Rattle.vme_judge.specs.Logs.{Cause, NoLine, LogSoFar, Illegal, Broken, is_broken, so_far, shown_by, access_spot, access_taken, local_of, line_taken, next_taken, log_taken}
-use Rattle.vme_judge.specs.Runs.{cause_of, run_so_far, log_whole, IsJudgedAs, IsOver, Judges, StaysFound, TakesLine, JudgesLine}
+use Rattle.vme_judge.specs.Standing.{Course, Falls, IsStanding, Standing, Stands, course_then, resumed, standing, stands, state_of}
+use Rattle.vme_judge.specs.Logs.{Cause, Broken, access_spot, access_taken, break_after, datum_by, datum_on, datum_spot, line_taken, local_of, log_by, log_taken, next_taken, so_far}
+use Rattle.vme_judge.specs.Runs.{IsGoing, Judges, TakesLine, cause_of, is_going, log_whole, run_so_far}
+use Rattle.vme_judge.proofs.Blanks.{left_then}
+use Rattle.vme_judge.proofs.Over.{is_over, whole_over}
+use Rattle.vme_judge.proofs.Samples.{stands_by}
 
--- an illegal log stays illegal
-pub stays_illegal : (found : Option Found) (line : ℕ) (lines : List (Result LogEntry Fault)) → log_taken (Illegal found) line lines ≡ Illegal found
-stays_illegal found line [] = refl
-stays_illegal found line (said ∷ lines) = stays_illegal found (one_more line) lines
+-- a trace that goes on is not rejected, and stands
+going_by : (rejected stood : Bool) → (not rejected && stood) ≡ true → (rejected ≡ false) × (stood ≡ true)
+going_by true stood on = absurd (cc on)
+going_by false stood on = (refl, on)
 
--- a broken log stays broken
-pub stays_broken : (cause : Cause) (line : ℕ) (lines : List (Result LogEntry Fault)) → log_taken (Broken cause) line lines ≡ Broken cause
-stays_broken cause line [] = refl
-stays_broken cause line (said ∷ lines) = stays_broken cause (one_more line) lines
+-- a run that goes on has rejected nothing
+pub going_whole : (run : Run) → IsGoing run → is_some run.rejection ≡ false
+going_whole run on = (going_by (is_some run.rejection) (stands (standing run.judge)) on).0
 
--- a line is taken as the definitions have it, unless the log is not legal before it
-pub takes : (rejected broken : Bool) (was now : Cause) (old new : Course) (last next : Option LogDatum) (line : ℕ) (said : Result LogEntry Fault)
-    → ((m : Standing) → old ≡ Stands m → so_far broken now new next ≡ line_taken line m last said)
-    → ((found : Option Found) → old ≡ Falls found → new ≡ Falls found)
-    → IsJudgedAs (next_taken (so_far rejected was old last) line said)
-    (so_far (broken || rejected) (if rejected then was else now) new next) new
-takes true true was now old new last next line said taken stays = inl refl
-takes true false was now old new last next line said taken stays = inl refl
-takes false broken was now (Falls found) new last next line said taken stays = inr (found, refl, stays found refl)
-takes false true was now (Stands m) new last next line said taken stays = inl (taken m refl)
-takes false false was now (Stands m) new last next line said taken stays = inl (taken m refl)
+-- a run that goes on stands
+pub going_stands : (run : Run) → IsGoing run → IsStanding (standing run.judge)
+going_stands run on = (going_by (is_some run.rejection) (stands (standing run.judge)) on).1
 
--- a log that is illegal has fallen
-pub illegal_fell : (broken : Bool) (cause : Cause) (c : Course) (last : Option LogDatum) (found : Option Found)
-    → so_far broken cause c last ≡ Illegal found → c ≡ Falls found
-illegal_fell true cause c last found is = absurd (cc is)
-illegal_fell false cause (Falls other) last found is = ap Falls (let same : other ≡ found = cc is in same)
-illegal_fell false cause (Stands m) last found is = absurd (cc is)
+-- a run that has rejected nothing goes on if it stands
+pub goes_if : (rejected : Bool) (goes_on stood : Bool) → rejected ≡ false → goes_on ≡ stood → goes_on ≡ (not rejected && stood)
+goes_if true goes_on stood none is = absurd (cc none)
+goes_if false goes_on stood none is = is
 
--- a log after a line that was judged, with the lines that are left
-pub lines_left : (log judged : LogSoFar) (c : Course) (line : ℕ) (lines : List (Result LogEntry Fault)) → IsJudgedAs log judged c
-    → IsJudgedAs (log_taken log line lines) (log_taken judged line lines) c
-lines_left log judged c line lines (inl same) = inl (ap (λ log. log_taken log line lines) same)
-lines_left log judged c line lines (inr is) =
-    inr (is.0, ap (λ log. log_taken log line lines) is.1 ∙ stays_illegal is.0 line lines, is.2)
+-- a run that has rejected its text does not go on
+pub stops_if : (rejected stood : Bool) → rejected ≡ true → false ≡ (not rejected && stood)
+stops_if true stood is = refl
+stops_if false stood is = absurd (cc is)
 
--- parts of a log that are judged one after another
-pub judged_on : (log mid new : LogSoFar) (c n : Course) → IsJudgedAs log mid c → IsJudgedAs mid new n
-    → ((found : Option Found) → c ≡ Falls found → n ≡ Falls found) → IsJudgedAs log new n
-judged_on log mid new c n (inl one) (inl two) stays = inl (two ∙ one)
-judged_on log mid new c n (inr one) two stays = inr (one.0, one.1, stays one.0 one.2)
-judged_on log mid new c n (inl one) (inr two) stays = inr (two.0, sym one ∙ two.1, two.2)
+-- a line that is taken
+taken_by : (was now : Option Rejection) (old new : Course) (last next : Option LogDatum) (line : ℕ) (says : Result LogEntry Fault)
+    → (not (is_some was) && stands old) ≡ true → now ≡ was → ((m : Standing) → old ≡ Stands m → log_by next new ≡ line_taken line m last says)
+    → so_far (is_some now) (cause_of now) new next ≡ next_taken (so_far (is_some was) (cause_of was) old last) line says
+taken_by (Some r) now old new last next line says on same taken = absurd (cc on)
+taken_by None now (Falls finding m) new last next line says on same taken = absurd (cc on)
+taken_by None now (Stands m) new last next line says on same taken =
+    ap (λ (r : Option Rejection). so_far (is_some r) (cause_of r) new next) same ∙ taken m refl
 
--- an access, as a line is taken
-pub as_access : (broken : Bool) (cause : Cause) (old new : Course) (last next : Option LogDatum) (line : ℕ) (a : LogAccess)
-    → so_far broken cause new next ≡ shown_by last (course_then (access_taken (access_spot line a) a.slot (local_of a)) old)
-    → (m : Standing) → old ≡ Stands m → so_far broken cause new next ≡ line_taken line m last (Ok (entries.Access a))
-as_access broken cause old new last next line a taken m is =
-    taken ∙ ap (λ c. shown_by last (course_then (access_taken (access_spot line a) a.slot (local_of a)) c)) is
-
--- an access after a finding
-pub access_stays : (broken : Bool) (cause : Cause) (old new : Course) (last next : Option LogDatum) (line : ℕ) (a : LogAccess)
-    → so_far broken cause new next ≡ shown_by last (course_then (access_taken (access_spot line a) a.slot (local_of a)) old)
-    → (found : Option Found) → old ≡ Falls found → new ≡ Falls found
-access_stays broken cause old new last next line a taken found fell =
-    illegal_fell broken cause new next found
-    (taken ∙ ap (λ c. shown_by last (course_then (access_taken (access_spot line a) a.slot (local_of a)) c)) fell)
-
--- the same judged log
-pub judged_same : (log a b : LogSoFar) (c n : Course) → IsJudgedAs log a c → a ≡ b → c ≡ n → IsJudgedAs log b n
-judged_same log a b c n (inl same) is now = inl (sym is ∙ same)
-judged_same log a b c n (inr fell) is now = inr (fell.0, fell.1, sym now ∙ fell.2)
+-- a line that is rejected
+refused_by : (was now : Option Rejection) (old : Course) (last next : Option LogDatum) (cause : Cause) (line : ℕ) (says : Result LogEntry Fault)
+    → (not (is_some was) && stands old) ≡ true → is_some now ≡ true → cause_of now ≡ (if is_some was then cause_of was else cause)
+    → ((m : Standing) → line_taken line m last says ≡ Broken cause m)
+    → so_far (is_some now) (cause_of now) old next ≡ next_taken (so_far (is_some was) (cause_of was) old last) line says
+refused_by (Some r) now old last next cause line says on is why broken = absurd (cc on)
+refused_by None now (Falls finding m) last next cause line says on is why broken = absurd (cc on)
+refused_by None now (Stands m) last next cause line says on is why broken =
+    ap (λ test. so_far test (cause_of now) (Stands m) next) is ∙ ap (λ c. Broken c m) why ∙ sym (broken m)
 
 -- a run that has taken a line
-pub line_is_taken : (old new : Run) (mid : Judge) (state : LogState) (broken : Bool) (cause : Cause) (line : ℕ) (said : Result LogEntry Fault)
-    → new.judge ≡ mid → new.state ≡ state → is_some new.rejection ≡ (broken || is_some old.rejection)
-    → cause_of new.rejection ≡ (if is_some old.rejection then cause_of old.rejection else cause)
-    → ((m : Standing) → standing old.judge ≡ Stands m → so_far broken cause (standing mid) state.last ≡ line_taken line m old.state.last said)
-    → ((found : Option Found) → standing old.judge ≡ Falls found → standing mid ≡ Falls found) → TakesLine old new line said
+pub line_is_taken : (old new : Run) (line : ℕ) (says : Result LogEntry Fault) → IsGoing old → new.rejection ≡ old.rejection
+    → ((m : Standing) → standing old.judge ≡ Stands m → log_by new.state.last (standing new.judge) ≡ line_taken line m old.state.last says)
+    → TakesLine old new line says
 unfolding run_so_far
-line_is_taken old new mid state broken cause line said judge same rejected why taken stays =
-    let now : Cause = if is_some old.rejection then cause_of old.rejection else cause in
-    judged_same _ _ _ _ _
-    (takes (is_some old.rejection) broken (cause_of old.rejection) cause (standing old.judge) (standing mid) old.state.last state.last line said
-    taken stays)
-    (sym (
-    ap (λ r. so_far r (cause_of new.rejection) (standing new.judge) new.state.last) rejected
-    ∙ ap (λ c. so_far (broken || is_some old.rejection) c (standing new.judge) new.state.last) why
-    ∙ ap (λ (j : Judge). so_far (broken || is_some old.rejection) now (standing j) new.state.last) judge
-    ∙ ap (λ (s : LogState). so_far (broken || is_some old.rejection) now (standing mid) s.last) same
-    ))
-    (sym (ap standing judge))
+line_is_taken old new line says on same taken =
+    taken_by old.rejection new.rejection (standing old.judge) (standing new.judge) old.state.last new.state.last line says on same taken
 
--- no further line is judged once something was found
-over_fallen : (rejected : Bool) (cause : Cause) (c : Course) (last : Option LogDatum) → HasFallen c → IsOver (so_far rejected cause c last)
-over_fallen true cause c last fell = stays_broken cause
-over_fallen false cause (Falls found) last fell = stays_illegal found
-over_fallen false cause (Stands m) last fell = absurd (cc fell)
-
--- no further line is judged once one was rejected
-over_rejected : (rejected : Bool) (cause : Cause) (c : Course) (last : Option LogDatum) → rejected ≡ true
-    → IsOver (so_far rejected cause c last)
-over_rejected true cause c last is = stays_broken cause
-over_rejected false cause c last is = absurd (cc is)
-
--- a run whose line was rejected is over
-pub is_over_rejected : (new : Run) → is_some new.rejection ≡ true → IsOver (run_so_far new)
+-- a run that has rejected a line
+pub line_is_refused : (old new : Run) (cause : Cause) (line : ℕ) (says : Result LogEntry Fault) → IsGoing old → is_some new.rejection ≡ true
+    → cause_of new.rejection ≡ (if is_some old.rejection then cause_of old.rejection else cause) → new.judge ≡ old.judge
+    → ((m : Standing) → line_taken line m old.state.last says ≡ Broken cause m) → TakesLine old new line says
 unfolding run_so_far
-is_over_rejected new rejected =
-    over_rejected (is_some new.rejection) (cause_of new.rejection) (standing new.judge) new.state.last rejected
-
--- a run that has rejected a line that is none of a log
-pub line_is_refused : (old new : Run) (line : ℕ) (fault : Fault) → is_some new.rejection ≡ true
-    → cause_of new.rejection ≡ (if is_some old.rejection then cause_of old.rejection else NoLine line fault) → new.judge ≡ old.judge
-    → new.state ≡ old.state → TakesLine old new line (Err fault)
-line_is_refused old new line fault rejected why judge state =
-    line_is_taken old new old.judge old.state true (NoLine line fault) line (Err fault) judge state rejected why (λ m is. refl) (λ found fell. fell)
-
--- a run whose line was not taken as legal is over
-pub is_over : (new : Run) (mid : Judge) (taken : Taken) (rejected : Bool) → new.judge ≡ mid
-    → is_some new.rejection ≡ (is_broken taken || rejected) → taken ≢ takens.Legal → (taken ≡ takens.Illegal → HasFallen (standing mid))
-    → IsOver (run_so_far new)
-unfolding run_so_far
-is_over new mid takens.Legal rejected judge is other fell = absurd (other refl)
-is_over new mid takens.Illegal rejected judge is other fell =
-    over_fallen (is_some new.rejection) (cause_of new.rejection) (standing new.judge) new.state.last
-    (ap (λ j. stands (standing j)) judge ∙ fell refl)
-is_over new mid (takens.Broken why) rejected judge is other fell =
-    over_rejected (is_some new.rejection) (cause_of new.rejection) (standing new.judge) new.state.last is
+line_is_refused old new cause line says on is why judge broken =
+    ap (λ j. so_far (is_some new.rejection) (cause_of new.rejection) (standing j) new.state.last) judge
+    ∙ refused_by old.rejection new.rejection (standing old.judge) old.state.last new.state.last cause line says on is why broken
 
 -- a run of which these bytes of a log are left to judge
 abbrev pub Leaves : Run → Run → List ℕ → List ℕ → Type 0
-Leaves old new bytes left =
-    (rest : List ℕ) → IsJudgedAs (log_whole old (bytes ++ rest)) (log_whole new (left ++ rest)) (standing new.judge)
+Leaves old new bytes left = (rest : List ℕ) → log_whole old (bytes ++ rest) ≡ log_whole new (left ++ rest)
 
 -- a run that has judged one more line
 pub leaves_after : (old mid new : Run) (bytes left line after : List ℕ) → Leaves old mid bytes left → left ≡ line ++ 10 ∷ after
-    → JudgesLine mid new line → StaysFound mid new → Leaves old new bytes after
-leaves_after old mid new bytes left line after one parts two stays = λ rest.
-    let all : left ++ rest ≡ line ++ 10 ∷ (after ++ rest) =
-    ap (λ text. text ++ rest) parts ∙ append_assoc line (10 ∷ after) rest in
-    judged_on _ _ _ _ _
-    (subst (λ text. IsJudgedAs (log_whole old (bytes ++ rest)) (log_whole mid text) (standing mid.judge)) all (one rest))
-    (two (after ++ rest)) stays
+    → Judges mid new (line ++ 10 ∷ []) → Leaves old new bytes after
+leaves_after old mid new bytes left line after one parts two = λ rest.
+    one rest ∙ ap (log_whole mid) (left_then left line after rest parts) ∙ two (after ++ rest)
 
--- a run that is over has judged all bytes
-pub judges_all : (old new : Run) (bytes left : List ℕ) → Leaves old new bytes left → IsOver (run_so_far new) → Judges old new bytes
-judges_all old new bytes left judges over = λ rest.
-    judged_same _ _ _ _ _ (judges rest)
-    (over new.log.number (log_says (new.log.line ++ (left ++ rest))) ∙ sym (over new.log.number (log_says (new.log.line ++ rest)))) refl
+-- a run that has stopped has judged all bytes
+pub judges_all : (old new : Run) (bytes left : List ℕ) → Leaves old new bytes left → is_going new ≡ false → Judges old new bytes
+judges_all old new bytes left judges off = λ rest. judges rest ∙ whole_over new (left ++ rest) off ∙ sym (whole_over new rest off)
 
 -- a run that keeps the begin of a line has judged all bytes
 pub judges_kept : (old mid new : Run) (read : Reading) (bytes left : List ℕ) → Leaves old mid bytes left → run_so_far new ≡ run_so_far mid
-    → standing new.judge ≡ standing mid.judge → new.log ≡ read → SaysAs (mid.log.line ++ left) read.line → read.number ≡ mid.log.number
-    → Judges old new bytes
-judges_kept old mid new read bytes left judges same stands log says number = λ rest.
+    → new.log ≡ read → SaysAs (mid.log.line ++ left) read.line → read.number ≡ mid.log.number → Judges old new bytes
+judges_kept old mid new read bytes left judges same log says number = λ rest.
     let lines : log_says (mid.log.line ++ (left ++ rest)) ≡ log_says (new.log.line ++ rest) =
     ap log_says (sym (append_assoc mid.log.line left rest)) ∙ says rest ∙ ap (λ (r : Reading). log_says (r.line ++ rest)) (sym log) in
     let line : mid.log.number ≡ new.log.number = sym number ∙ ap (λ (r : Reading). r.number) (sym log) in
-    judged_same _ _ _ _ _ (judges rest)
-    (ap (λ log. log_taken log mid.log.number (log_says (mid.log.line ++ (left ++ rest)))) (sym same)
+    judges rest
+    ∙ ap (λ log. log_taken log mid.log.number (log_says (mid.log.line ++ (left ++ rest)))) (sym same)
     ∙ ap (λ n. log_taken (run_so_far new) n (log_says (mid.log.line ++ (left ++ rest)))) line
-    ∙ ap (log_taken (run_so_far new) new.log.number) lines)
-    (sym stands)
+    ∙ ap (log_taken (run_so_far new) new.log.number) lines
 
--- a run that has judged the rest of a line
-pub line_pushed : (old mid new : Run) (read : Reading) (line : List ℕ) (said : Result LogEntry Fault) → run_so_far mid ≡ run_so_far old
-    → TakesLine mid new old.log.number said → new.log ≡ read
-    → ((rest : List ℕ) → log_says (old.log.line ++ (line ++ 10 ∷ rest)) ≡ said ∷ log_says rest)
-    → read ≡ record { line = []; number = one_more old.log.number } → JudgesLine old new line
-line_pushed old mid new read line said same taken log ends next = λ rest.
-    let is : new.log ≡ record { line = []; number = one_more old.log.number } = log ∙ next in
-    let left : log_taken (run_so_far new) (one_more old.log.number) (log_says rest) ≡ log_whole new rest =
-    ap (λ (r : Reading). log_taken (run_so_far new) r.number (log_says (r.line ++ rest))) (sym is) in
-    judged_same _ _ _ _ _
-    (subst (λ before. IsJudgedAs before (log_taken (run_so_far new) (one_more old.log.number) (log_says rest)) (standing new.judge))
-    (ap (λ log. log_taken (next_taken log old.log.number said) (one_more old.log.number) (log_says rest)) same
-    ∙ sym (ap (log_taken (run_so_far old) old.log.number) (ends rest)))
-    (lines_left (next_taken (run_so_far mid) old.log.number said) (run_so_far new) (standing new.judge) (one_more old.log.number)
-    (log_says rest) taken))
-    left refl
+module _ (old new : Run) (line : List ℕ) (says : Result LogEntry Fault) (taken : TakesLine old new old.log.number says) (ends : (rest : List ℕ) → log_says (old.log.line ++ (line ++ 10 ∷ rest)) ≡ says ∷ log_says rest) where
+  -- a log after the rest of a line
+  line_then : (rest : List ℕ) → log_whole old ((line ++ 10 ∷ []) ++ rest) ≡ log_taken (run_so_far new) (one_more old.log.number) (log_says rest)
+  line_then rest =
+      ap (log_whole old) (append_assoc line (10 ∷ []) rest) ∙ ap (log_taken (run_so_far old) old.log.number) (ends rest)
+      ∙ ap (λ log. log_taken log (one_more old.log.number) (log_says rest)) (sym taken)
 
--- a run that has rejected the rest of a line
-pub line_refused : (old new : Run) (line : List ℕ) (fault : Fault) → TakesLine old new old.log.number (Err fault) → IsOver (run_so_far new)
-    → ((rest : List ℕ) → log_says (old.log.line ++ (line ++ 10 ∷ rest)) ≡ Err fault ∷ log_says rest) → JudgesLine old new line
-line_refused old new line fault taken over ends = λ rest.
-    judged_same _ _ _ _ _
-    (subst (λ before. IsJudgedAs before (log_taken (run_so_far new) (one_more old.log.number) (log_says rest)) (standing new.judge))
-    (sym (ap (log_taken (run_so_far old) old.log.number) (ends rest)))
-    (lines_left (next_taken (run_so_far old) old.log.number (Err fault)) (run_so_far new) (standing new.judge) (one_more old.log.number)
-    (log_says rest) taken))
-    (over (one_more old.log.number) (log_says rest) ∙ sym (over new.log.number (log_says (new.log.line ++ rest)))) refl
+  -- a run that has judged the rest of a line
+  pub line_pushed : (read : Reading) → new.log ≡ read → read ≡ record { line = []; number = one_more old.log.number } → Judges old new (line ++ 10 ∷ [])
+  line_pushed read log next = λ rest.
+      line_then rest ∙ ap (λ (r : Reading). log_taken (run_so_far new) r.number (log_says (r.line ++ rest))) (sym (log ∙ next))
+
+  -- a run that has rejected the rest of a line
+  pub line_stopped : is_going new ≡ false → Judges old new (line ++ 10 ∷ [])
+  line_stopped off = λ rest. line_then rest ∙ is_over new (one_more old.log.number) (log_says rest) off ∙ sym (whole_over new rest off)
 
 -- a run that has judged the line with which a log ends
-pub ended_taken : (old mid new : Run) (said : Result LogEntry Fault) → run_so_far mid ≡ run_so_far old → TakesLine mid new old.log.number said
-    → log_says old.log.line ≡ said ∷ [] → IsJudgedAs (log_whole old []) (run_so_far new) (standing new.judge)
-ended_taken old mid new said same taken says =
-    subst (λ log. IsJudgedAs log (run_so_far new) (standing new.judge))
-    (sym (
+pub ended_taken : (old new : Run) (says : Result LogEntry Fault) → TakesLine old new old.log.number says → log_says old.log.line ≡ says ∷ []
+    → log_whole old [] ≡ run_so_far new
+ended_taken old new says taken ends =
     ap (λ line. log_taken (run_so_far old) old.log.number (log_says line)) (append-nil old.log.line)
-    ∙ ap (log_taken (run_so_far old) old.log.number) says
-    ∙ ap (λ log. next_taken log old.log.number said) (sym same)
-    ))
-    taken
+    ∙ ap (log_taken (run_so_far old) old.log.number) ends ∙ sym taken
+
+-- whether a run goes on does not depend on what is not written yet
+pub going_written : (run : Run) (pending : String Global)
+    → is_going (record run { judge = record run.judge { pending = pending } }) ≡ is_going run
+unfolding standing
+going_written run pending =
+    ap (λ stood. not (is_some run.rejection) && stood)
+    (stands_by run.judge.finding (state_of (record run.judge { pending = pending })) ∙ sym (stands_by run.judge.finding (state_of run.judge)))
+
+-- a run that has taken the datum of a line
+pub datum_is_taken : (old new : Run) (line : ℕ) (d : LogDatum) (result : Result Bool AllocError) → IsGoing old → new.rejection ≡ old.rejection
+    → break_after old.state.last d ≡ None
+    → ((m : Standing) → standing old.judge ≡ Stands m
+    → IfOk result (λ _. log_by new.state.last (standing new.judge) ≡ datum_on (datum_spot line d) m old.state.last d))
+    → IfOk result (λ _. TakesLine old new line (Ok (entries.Datum d)))
+datum_is_taken old new line d (Err fault) on same none taken = tt
+datum_is_taken old new line d (Ok goes_on) on same none taken =
+    line_is_taken old new line (Ok (entries.Datum d)) on same (λ m is. taken m is ∙ ap (datum_by line m old.state.last d) (sym none))
+
+-- a run that has taken the local access of a line
+pub access_is_taken : (old new : Run) (line : ℕ) (a : LogAccess) (result : Result Bool AllocError) → IsGoing old → new.rejection ≡ old.rejection
+    → new.state.last ≡ old.state.last
+    → (IsStanding (standing old.judge) → IfOk result (λ _. standing new.judge
+    ≡ course_then (λ m. resumed (access_taken (access_spot line a) a.slot (local_of a) m)) (standing old.judge)))
+    → IfOk result (λ _. TakesLine old new line (Ok (entries.Access a)))
+access_is_taken old new line a (Err fault) on same last taken = tt
+access_is_taken old new line a (Ok goes_on) on same last taken =
+    line_is_taken old new line (Ok (entries.Access a)) on same (λ m is.
+    ap (λ last. log_by last (standing new.judge)) last ∙ ap (log_by old.state.last) (taken (going_stands old on)
+    ∙ ap (course_then (λ m. resumed (access_taken (access_spot line a) a.slot (local_of a) m))) is))
+
+-- whether a run goes on after what its judgement takes
+pub goes_after : (old new : Run) (result : Result Bool AllocError) → IsGoing old → new.rejection ≡ old.rejection
+    → (IsStanding (standing old.judge) → IfOk result (λ goes_on. goes_on ≡ stands (standing new.judge)))
+    → IfOk result (λ goes_on. goes_on ≡ is_going new)
+goes_after old new (Err fault) on same goes = tt
+goes_after old new (Ok goes_on) on same goes =
+    goes_if (is_some new.rejection) goes_on (stands (standing new.judge)) (ap is_some same ∙ going_whole old on) (goes (going_stands old on))

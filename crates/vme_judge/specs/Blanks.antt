@@ -9,12 +9,11 @@ use Rattle.vme_vcd_reader.specs.Headers.{beginning}
 use Rattle.vme_vcd_reader.specs.Readers.{IsHeader}
 use Rattle.vme_judge.specs.declared.run.Kind.TheVariants as kinds
 use Rattle.vme_judge.specs.declared.run.Run.{Run}
-use Rattle.vme_judge.specs.DumpRuns.{DumpStays, InHeader, HasReached, IsDumpJudgedAs, IsUnjudged, Reached, dump_so_far, text_whole}
+use Rattle.vme_judge.specs.DumpRuns.{InHeader, HasReached, IsUnjudged, Reached, dump_so_far, text_whole}
 use Rattle.vme_judge.specs.Dumps.{DumpSoFar}
 use Rattle.vme_judge.specs.DumpTexts.{after_blanks, long_blanks}
 use Rattle.vme_judge.specs.Logs.{NoLine}
-use Rattle.vme_judge.specs.Runs.{cause_of, form_after, RunsOnce}
-use Rattle.vme_judge.specs.Standing.{standing}
+use Rattle.vme_judge.specs.Runs.{cause_of, form_after}
 
 -- all bytes are blanks: the form of a trace that begins with them is not known yet
 abbrev pub AreBlanks : List ℕ → Type 0
@@ -84,10 +83,7 @@ pub record ReadsFirst (map : Map) (line : List ℕ) (old new : Run) (bytes : Lis
 -- a run has taken the first bytes of a dump, after blanks of a line
 pub record BeginsDump (map : Map) (line : List ℕ) (old new : Run) (bytes : List ℕ) (goes_on : Bool) : Type 0 where
   pub reads : goes_on ≡ true → ReadsFirst map line old new bytes
-  pub stops : goes_on ≡ false → (rest : List ℕ)
-      → IsDumpJudgedAs (blanks_whole map line old (bytes ++ rest)) (dump_so_far new) (standing new.judge)
-  pub stays : DumpStays old new
-  pub once : RunsOnce old new goes_on
+  pub stops : goes_on ≡ false → (rest : List ℕ) → blanks_whole map line old (bytes ++ rest) ≡ dump_so_far new
 
 -- a run whose trace had blanks alone has taken bytes of a dump, whose form is known then
 abbrev pub TakesFirst : Map → List ℕ → Run → Run → List ℕ → Bool → Type 0

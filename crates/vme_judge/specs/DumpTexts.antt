@@ -1,5 +1,5 @@
 -- Which texts are legal dumps: a header, byte by byte, and the samples of the body that follows it.
-use Rattle.std.specs.Prelude.{◌≡◌, ◌≢◌, ℕ, ◌+◌, nat_lt, true, not, ◌==◌, if◌then◌else◌, ◌⊎◌, List, [], ◌∷◌, ◌++◌, map as map_list, replicate, Option, Some, None, Result, Ok, Err}
+use Rattle.std.specs.Prelude.{ℕ, ◌+◌, nat_lt, not, ◌==◌, if◌then◌else◌, List, [], ◌∷◌, ◌++◌, map as map_list, replicate, Option, Some, None, Result, Ok, Err}
 use Rattle.vme_bus_log.specs.Faults.{TooLong}
 use Rattle.vme_line_map.specs.Variables.{Map}
 use Rattle.vme_vcd_reader.specs.declared.fault.VcdFault.{VcdFault}
@@ -14,10 +14,8 @@ use Rattle.vme_vcd_reader.specs.Openings.{opening_of}
 use Rattle.vme_vcd_reader.specs.Presences.{presence_of}
 use Rattle.vme_vcd_reader.specs.Samples.{samples_of}
 use Rattle.vme_judge.specs.declared.boards.Board.{Board}
-use Rattle.vme_judge.specs.declared.fault.Status.{Status}
-use Rattle.vme_judge.specs.declared.fault.Status.TheVariants.{Rejected}
 use Rattle.vme_judge.specs.declared.options.Options.{Options}
-use Rattle.vme_judge.specs.Dumps.{DumpSoFar, Legal, Illegal, Broken, is_illegal, broken_off, dump_status, dump_taken, with_presence}
+use Rattle.vme_judge.specs.Dumps.{DumpSoFar, Legal, Illegal, Broken, broken_off, dump_taken, with_presence}
 use Rattle.vme_judge.specs.Logs.{NoDump, NoLine}
 use Rattle.vme_judge.specs.Openings.{opening}
 use Rattle.vme_judge.specs.Seen.{one_more}
@@ -30,15 +28,15 @@ rows_with lines = map_list (λ line. record { identifier = line.0; mapped = line
 -- a dump at the end of its header, which says which lines it has
 abbrev pub headed : Presence → DumpSoFar → DumpSoFar
 headed p (Legal m ports) = Legal (with_presence p m) ports
-headed p (Illegal found) = Illegal found
-headed p (Broken cause) = Broken cause
+headed p (Illegal finding m) = Illegal finding m
+headed p (Broken cause m) = Broken cause m
 
 -- a dump by the lines of its header, the numbers of the lines with which the header ends and the text of its body begins, and
 -- this text, which is judged as its samples; its header may not have the lines that are wanted
-abbrev pub body_judged : Options → DumpSoFar → Result (List (ℕ × Mapped)) VcdFault → ℕ → ℕ → List ℕ → DumpSoFar
-body_judged o d (Err fault) at line text = broken_off (NoDump at fault) d
-body_judged o d (Ok lines) at line text =
-    dump_taken o (headed (presence_of lines) d) (samples_of (rows_with lines) (opening_of (presence_of lines).busy line) text)
+abbrev pub body_judged : DumpSoFar → Result (List (ℕ × Mapped)) VcdFault → ℕ → ℕ → List ℕ → DumpSoFar
+body_judged d (Err fault) at line text = broken_off (NoDump at fault) d
+body_judged d (Ok lines) at line text =
+    dump_taken (headed (presence_of lines) d) (samples_of (rows_with lines) (opening_of (presence_of lines).busy line) text)
 
 -- a dump whose text ends with the header, in a line: it has no sample, if the header is whole
 abbrev pub header_over : DumpSoFar → ℕ → Option VcdFault → DumpSoFar
@@ -47,15 +45,15 @@ header_over d line (Some fault) = broken_off (NoDump line fault) d
 
 -- a dump by what became of its header, which had declared variables; the numbers of the lines with the last byte that was read
 -- and with which the text begins that is left, and this text
-abbrev pub header_judged : Options → Map → DumpSoFar → List Declaration → Outcome → ℕ → ℕ → List ℕ → DumpSoFar
-header_judged o map d ds Ends at line text = body_judged o d (lines_of map ds) at line text
-header_judged o map d ds (Rejects fault) at line text = broken_off (NoDump at fault) d
-header_judged o map d ds (Goes h) at line [] = header_over d line (header_end (byte_read h 32) (lines_of map ds))
-header_judged o map d ds (Goes h) at line (b ∷ bs) = header_judged o map d ds (byte_read h b) line (line_after b line) bs
-header_judged o map d ds (Declares h) at line [] =
+abbrev pub header_judged : Map → DumpSoFar → List Declaration → Outcome → ℕ → ℕ → List ℕ → DumpSoFar
+header_judged map d ds Ends at line text = body_judged d (lines_of map ds) at line text
+header_judged map d ds (Rejects fault) at line text = broken_off (NoDump at fault) d
+header_judged map d ds (Goes h) at line [] = header_over d line (header_end (byte_read h 32) (lines_of map ds))
+header_judged map d ds (Goes h) at line (b ∷ bs) = header_judged map d ds (byte_read h b) line (line_after b line) bs
+header_judged map d ds (Declares h) at line [] =
     header_over d line (header_end (byte_read h 32) (lines_of map (ds ++ declaration h ∷ [])))
-header_judged o map d ds (Declares h) at line (b ∷ bs) =
-    header_judged o map d (ds ++ declaration h ∷ []) (byte_read h b) line (line_after b line) bs
+header_judged map d ds (Declares h) at line (b ∷ bs) =
+    header_judged map d (ds ++ declaration h ∷ []) (byte_read h b) line (line_after b line) bs
 
 -- the number of the first line of more than 255 blanks, if one ends before the first byte of a text that is no blank; the text
 -- stands after blanks of a line with a number
@@ -80,11 +78,4 @@ unjudged o boards = Legal (opening o boards) (replicate 21 None)
 unfoldable pub dump_of : Options → Map → List Board → List ℕ → DumpSoFar
 dump_of o map boards text =
     after_blanks (long_blanks 0 1 text) (unjudged o boards)
-    (header_judged o map (unjudged o boards) [] (Goes beginning) 1 1 text)
-
--- a status says how a dump was judged; where another number of findings than one is asked for, an illegal dump may be
--- rejected for a word after the first finding
-abbrev pub IsDumpStatusOf : Options → Map → List Board → List ℕ → Status → Type 0
-IsDumpStatusOf o map boards text status =
-    (status ≡ dump_status (dump_of o map boards text))
-    ⊎ ((o.limit ≢ 1) × (is_illegal (dump_of o map boards text) ≡ true) × (status ≡ Rejected))
+    (header_judged map (unjudged o boards) [] (Goes beginning) 1 1 text)

@@ -1,5 +1,6 @@
 -- Which dumps are legal: each sample is judged after those before it, and with it what the boards' local ports have done.
 use Rattle.std.specs.Prelude.{ℕ, ◌+◌, ◌/◌, ◌^◌, ◌%◌, bit_and, Bool, true, false, not, ◌==◌, ◌&&◌, ◌||◌, if◌then◌else◌, List, [], ◌∷◌, Option, Some, None, is_some, is_none, Result, Ok, Err}
+use Rattle.std.specs.Option.{option_map}
 use Rattle.vme_protocol.specs.declared.port.Local.{Local}
 use Rattle.vme_protocol.specs.declared.port.Port.{Port}
 use Rattle.vme_protocol.specs.declared.rule.Rule.{Rule}
@@ -18,11 +19,11 @@ use Rattle.vme_judge.specs.declared.fault.Status.TheVariants as statuses
 use Rattle.vme_judge.specs.declared.finding.Broken.TheVariants as brokens
 use Rattle.vme_judge.specs.declared.finding.Finding.{Finding}
 use Rattle.vme_judge.specs.declared.judge.Spot.{Spot}
-use Rattle.vme_judge.specs.declared.options.Options.{Options}
 use Rattle.vme_judge.specs.declared.transfer.OpenTransfer.{OpenTransfer}
-use Rattle.vme_judge.specs.Logs.{Cause, NoDump, access_taken}
-use Rattle.vme_judge.specs.Seen.{has_counted, one_more}
-use Rattle.vme_judge.specs.Standing.{Course, Falls, Found, Standing, Stands, course_then, found_at, sample_taken}
+use Rattle.vme_judge.specs.Forgetting.{without_slot}
+use Rattle.vme_judge.specs.Logs.{Cause, NoDump, access_taken, standing_status}
+use Rattle.vme_judge.specs.Seen.{one_more}
+use Rattle.vme_judge.specs.Standing.{Course, Falls, Standing, Stands, course_then, remembered, resumed, sample_taken}
 
 -- slots, and those of boards
 abbrev pub with_boards : ℕ → List Board → ℕ
@@ -66,21 +67,29 @@ port_finding spot slot transfer rule = record {
   undefined = None;
 }
 
--- a trace that stands, after a rule that the local port of a slot breaks
-unfoldable pub breach_taken : Spot → ℕ → Rule → Standing → Course
-breach_taken spot slot rule m = found_at m (port_finding spot slot m.transfer rule) m.counts m.transfer
+-- what is remembered once the bytes of the boards in a slot are forgotten
+abbrev pub slot_forgotten : ℕ → Standing → Standing
+slot_forgotten slot m = record m { answers = option_map (without_slot slot 0 m.boards) m.answers }
 
--- a trace that stands, after what the local port of a slot has done: nothing, an access, or what breaks a rule
+-- a trace that stands, after a rule that the local port of a slot breaks: any byte of its board may have changed
+unfoldable pub breach_taken : Spot → ℕ → Rule → Standing → Course
+breach_taken spot slot rule m = Falls (port_finding spot slot m.transfer rule) (slot_forgotten slot m)
+
+-- a trace that stands, after what the local port of a slot has done: nothing, an access, or what breaks a rule; after a finding
+-- the judgement may go on
 abbrev pub done_taken : Spot → ℕ → Result (Option Local) Rule → Standing → Course
-done_taken spot slot (Err rule) m = breach_taken spot slot rule m
+done_taken spot slot (Err rule) m = resumed (breach_taken spot slot rule m)
 done_taken spot slot (Ok None) m = Stands m
-done_taken spot slot (Ok (Some access)) m = access_taken spot slot access m
+done_taken spot slot (Ok (Some access)) m = resumed (access_taken spot slot access m)
+
+-- whether a sample at rest was seen
+abbrev pub is_begun : Standing → Bool
+is_begun m = is_some m.watch || not (m.found == 0)
 
 -- the same by what the port showed before, if it has shown anything; before the first sample at rest nothing is judged
 abbrev pub port_taken : Spot → ℕ → Option Port → Port → Standing → Course
 port_taken spot slot None now m = Stands m
-port_taken spot slot (Some last) now m =
-    if is_some m.watch then done_taken spot slot (local_between last now) m else Stands m
+port_taken spot slot (Some last) now m = if is_begun m then done_taken spot slot (local_between last now) m else Stands m
 
 -- what the local port at a place shows
 abbrev pub port_at : BusLines → ℕ → Port
@@ -100,22 +109,16 @@ ports_after lines changed place [] = []
 ports_after lines changed place (last ∷ ports) =
     (if is_among changed place then Some (port_at lines place) else last) ∷ ports_after lines changed (place + 1) ports
 
--- a dump so far: legal, with what is remembered of it and what each local port has shown; illegal, once a sample or a port
--- is, with what is found, if one finding is asked for; or broken, once its text is none of a dump
+-- a dump so far, with what is remembered of it: legal, with what each local port has shown; illegal, once a sample or a port is
+-- and the limit is reached, with what is found; or broken, once its text is none of a dump
 pub data DumpSoFar : Type 0 where
   Legal : Standing → List (Option Port) → DumpSoFar
-  Illegal : Option Found → DumpSoFar
-  Broken : Cause → DumpSoFar
-
--- whether a dump is illegal
-abbrev pub is_illegal : DumpSoFar → Bool
-is_illegal (Legal m ports) = false
-is_illegal (Illegal found) = true
-is_illegal (Broken cause) = false
+  Illegal : Finding → Standing → DumpSoFar
+  Broken : Cause → Standing → DumpSoFar
 
 -- a dump by its course, and what each local port has shown
 abbrev pub dump_by : Course → List (Option Port) → DumpSoFar
-dump_by (Falls found) ports = Illegal found
+dump_by (Falls finding m) ports = Illegal finding m
 dump_by (Stands m) ports = Legal m ports
 
 -- the place of a sample: its time, and the line of the dump that says it
@@ -131,41 +134,47 @@ abbrev pub passed : Standing → Standing
 passed m = record m { counts = record m.counts { samples = one_more m.counts.samples } }
 
 -- whether a sample is passed over: no variable has changed, no time is limited, and the samples are judged already
-abbrev pub is_passed : Options → Shown → Standing → Bool
-is_passed o s m = not s.changed && is_none o.timeout && is_some m.watch
+abbrev pub is_passed : Shown → Standing → Bool
+is_passed s m = not s.changed && is_none m.options.timeout && is_some m.watch
 
--- a trace that stands, after a sample and what the local ports have done at it
+-- a trace that stands, after a sample and what the local ports have done at it; after a finding the judgement may go on
 abbrev pub shown_taken : Shown → List (Option Port) → Standing → Course
 shown_taken s ports m =
     course_then (ports_taken (spot_of s) s.lines s.ports 0 ports)
-    (sample_taken (spot_of s) (undefined_at s.lines (sample_of s.lines s.time).undefined) (sample_of s.lines s.time) m)
+    (resumed (sample_taken (spot_of s) (undefined_at s.lines (sample_of s.lines s.time).undefined) (sample_of s.lines s.time) m))
 
 -- a legal dump after a sample
-abbrev pub legal_next : Options → Shown → Standing → List (Option Port) → DumpSoFar
-legal_next o s m ports =
-    if is_passed o s m then Legal (passed m) ports
+abbrev pub legal_next : Shown → Standing → List (Option Port) → DumpSoFar
+legal_next s m ports =
+    if is_passed s m then Legal (passed m) ports
     else dump_by (shown_taken s ports m) (ports_after s.lines s.ports 0 ports)
 
--- a dump after a sample; after one that is not legal nothing is judged
-abbrev pub next_shown : Options → Shown → DumpSoFar → DumpSoFar
-next_shown o s (Legal m ports) = legal_next o s m ports
-next_shown o s (Illegal found) = Illegal found
-next_shown o s (Broken cause) = Broken cause
+-- a dump after a sample; after the last finding or what is rejected nothing is judged
+abbrev pub next_shown : Shown → DumpSoFar → DumpSoFar
+next_shown s (Legal m ports) = legal_next s m ports
+next_shown s (Illegal finding m) = Illegal finding m
+next_shown s (Broken cause m) = Broken cause m
 
 -- a dump whose text is none of a dump from here on, for a cause
 abbrev pub broken_off : Cause → DumpSoFar → DumpSoFar
-broken_off cause (Legal m ports) = Broken cause
-broken_off cause (Illegal found) = Illegal found
-broken_off cause (Broken before) = Broken before
+broken_off cause (Legal m ports) = Broken cause m
+broken_off cause (Illegal finding m) = Illegal finding m
+broken_off cause (Broken before m) = Broken before m
 
 -- a dump after samples
-abbrev pub dump_taken : Options → DumpSoFar → Samples → DumpSoFar
-dump_taken o d End = d
-dump_taken o d (BrokenBody flaw) = broken_off (NoDump flaw.line flaw.fault) d
-dump_taken o d (Sample s samples) = dump_taken o (next_shown o s d) samples
+abbrev pub dump_taken : DumpSoFar → Samples → DumpSoFar
+dump_taken d End = d
+dump_taken d (BrokenBody flaw) = broken_off (NoDump flaw.line flaw.fault) d
+dump_taken d (Sample s samples) = dump_taken (next_shown s d) samples
 
--- the verdict on a dump: it is rejected too if there is neither a datum nor a local access that is judged
+-- the verdict on a dump
 abbrev pub dump_status : DumpSoFar → Status
-dump_status (Legal m ports) = if has_counted m.counts then statuses.Legal else statuses.Rejected
-dump_status (Illegal found) = statuses.Illegal
-dump_status (Broken cause) = statuses.Rejected
+dump_status (Legal m ports) = standing_status m
+dump_status (Illegal finding m) = statuses.Illegal
+dump_status (Broken cause m) = statuses.Rejected
+
+-- what is said before the verdict on a dump
+abbrev pub dump_says_before : DumpSoFar → List ℕ
+dump_says_before (Legal m ports) = m.said
+dump_says_before (Illegal finding m) = m.said
+dump_says_before (Broken cause m) = m.said

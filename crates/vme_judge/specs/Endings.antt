@@ -1,5 +1,5 @@
 -- What is written of a trace, by its text.
-use Rattle.std.specs.Prelude.{◌≡◌, ℕ, Bool, not, ◌==◌, ◌||◌, if◌then◌else◌, List, [], Option, Some, None, IsSome, is_some}
+use Rattle.std.specs.Prelude.{◌≡◌, ℕ, Bool, if◌then◌else◌, List, [], ◌++◌, Option, Some, None, IsSome, is_some}
 use Rattle.std.specs.Io.KnownBytes.{Appends}
 use Rattle.vme_bus_log.specs.declared.fault.LogFault.{LogFault}
 use Rattle.vme_bus_log.specs.Faults.{reported}
@@ -7,24 +7,19 @@ use Rattle.vme_line_map.specs.Variables.{Map}
 use Rattle.vme_vcd_reader.specs.declared.presence.Presence.{Presence}
 use Rattle.vme_vcd_reader.specs.Presences.{no_lines}
 use Rattle.vme_judge.specs.declared.boards.Board.{Board}
-use Rattle.vme_judge.specs.declared.counts.Counts.{Counts}
 use Rattle.vme_judge.specs.declared.finding.Finding.{Finding}
 use Rattle.vme_judge.specs.declared.options.Options.{Options}
 use Rattle.vme_judge.specs.declared.rejection.Why.TheVariants as whys
 use Rattle.vme_judge.specs.declared.run.Kind.{Kind}
 use Rattle.vme_judge.specs.declared.run.Kind.TheVariants as kinds
-use Rattle.vme_judge.specs.declared.transfer.OpenTransfer.{OpenTransfer}
-use Rattle.vme_judge.specs.Dumps.{DumpSoFar}
+use Rattle.vme_judge.specs.Dumps.{DumpSoFar, dump_says_before}
 use Rattle.vme_judge.specs.Dumps as dumps
 use Rattle.vme_judge.specs.DumpTexts.{dump_of}
-use Rattle.vme_judge.specs.Logs.{Cause, NoLine, Break, NoDump, Other, LogSoFar}
+use Rattle.vme_judge.specs.Logs.{Cause, NoLine, Break, NoDump, Other, LogSoFar, log_says_before}
 use Rattle.vme_judge.specs.Logs as logs
+use Rattle.vme_judge.specs.Standing.{Standing}
 use Rattle.vme_judge.specs.Verdicts.{log_of}
 use Rattle.vme_judge.specs.VerdictTexts.{Ending, verdict_text}
-
--- whether something may be written before the verdict: the lines of a bus log, or findings after which the judgement goes on
-abbrev pub writes_ahead : Options → Bool
-writes_ahead o = o.log || not (o.limit == 1)
 
 -- a text, unless nothing is to be printed
 abbrev pub unless : Bool → List ℕ → List ℕ
@@ -34,17 +29,17 @@ unless quiet text = if quiet then [] else text
 abbrev pub verdict_printed : Options → Map → List Board → Ending → List ℕ
 verdict_printed o map boards e = unless o.quiet (verdict_text o map boards e)
 
--- the end of a trace that is not rejected: its form, the lines that a dump has, what is found, if one finding is asked for, what
--- was seen, and the transfer that is open
-abbrev pub judged_ending : Kind → Presence → Option Finding → Counts → Option OpenTransfer → Ending
-judged_ending kind presence finding counts transfer = record {
+-- the end of a trace that is not rejected: its form, the lines that a dump has, the last finding, if the limit is reached with it,
+-- and what is remembered
+abbrev pub judged_ending : Kind → Presence → Option Finding → Standing → Ending
+judged_ending kind presence finding m = record {
   kind = kind;
   presence = presence;
   rejection = None;
   finding = finding;
-  found = 0;
-  counts = counts;
-  is_within = is_some transfer;
+  found = m.found;
+  counts = m.counts;
+  is_within = is_some m.transfer;
 }
 
 -- a text is rejected for a cause
@@ -55,28 +50,28 @@ IsRejectedFor (Break line why) e = e.rejection ≡ Some (record { why = whys.Bre
 IsRejectedFor (NoDump line fault) e = e.rejection ≡ Some (record { why = whys.Dump fault; line = Some line })
 IsRejectedFor Other e = IsSome e.rejection
 
--- a log, of which one finding is asked for, ends so: with what was seen, with what is found, or rejected for a cause
+-- a log ends so: as it was judged, or rejected for a cause
 abbrev pub EndsAsLog : LogSoFar → Ending → Type 0
-EndsAsLog (logs.Legal m last) e = e ≡ judged_ending kinds.Log no_lines None m.counts m.transfer
-EndsAsLog (logs.Illegal None) e = ⊥
-EndsAsLog (logs.Illegal (Some f)) e = e ≡ judged_ending kinds.Log no_lines (Some f.finding) f.counts f.transfer
-EndsAsLog (logs.Broken cause) e = IsRejectedFor cause e
+EndsAsLog (logs.Legal m last) e = e ≡ judged_ending kinds.Log no_lines None m
+EndsAsLog (logs.Illegal finding m) e = e ≡ judged_ending kinds.Log no_lines (Some finding) m
+EndsAsLog (logs.Broken cause m) e = IsRejectedFor cause e
 
--- a dump, of which one finding is asked for, ends so, with the lines that its header has, or rejected for a cause
+-- a dump ends so: as it was judged, with the lines that its header has, or rejected for a cause
 abbrev pub EndsAsDump : DumpSoFar → Ending → Type 0
-EndsAsDump (dumps.Legal m ports) e = e ≡ judged_ending kinds.Dump m.presence None m.counts m.transfer
-EndsAsDump (dumps.Illegal None) e = ⊥
-EndsAsDump (dumps.Illegal (Some f)) e = e ≡ judged_ending kinds.Dump f.presence (Some f.finding) f.counts f.transfer
-EndsAsDump (dumps.Broken cause) e = IsRejectedFor cause e
+EndsAsDump (dumps.Legal m ports) e = e ≡ judged_ending kinds.Dump m.presence None m
+EndsAsDump (dumps.Illegal finding m) e = e ≡ judged_ending kinds.Dump m.presence (Some finding) m
+EndsAsDump (dumps.Broken cause m) e = IsRejectedFor cause e
 
--- after known bytes the verdict of a trace that ends so is written, and nothing else
-abbrev pub Prints : (Ending → Type 0) → Options → Map → List Board → Option (List ℕ) → Option (List ℕ) → Type 0
-Prints Ends o map boards old new = (e : Ending) × Ends e × Appends old new (verdict_printed o map boards e)
+-- after known bytes what is said before the verdict is written, then the verdict of a trace that ends so, and nothing else
+abbrev pub Prints : (Ending → Type 0) → List ℕ → Options → Map → List Board → Option (List ℕ) → Option (List ℕ) → Type 0
+Prints Ends said o map boards old new = (e : Ending) × Ends e × Appends old new (said ++ verdict_printed o map boards e)
 
--- the verdict on a log is written, by what its text says
+-- what a log has printed, by what its text says
 abbrev pub PrintsLog : Options → Map → List Board → List ℕ → Option (List ℕ) → Option (List ℕ) → Type 0
-PrintsLog o map boards text old new = Prints (EndsAsLog (log_of o boards text)) o map boards old new
+PrintsLog o map boards text old new =
+    Prints (EndsAsLog (log_of o boards text)) (log_says_before (log_of o boards text)) o map boards old new
 
--- the verdict on a dump is written, by what its text says
+-- what a dump has printed, by what its text says
 abbrev pub PrintsDump : Options → Map → List Board → List ℕ → Option (List ℕ) → Option (List ℕ) → Type 0
-PrintsDump o map boards text old new = Prints (EndsAsDump (dump_of o map boards text)) o map boards old new
+PrintsDump o map boards text old new =
+    Prints (EndsAsDump (dump_of o map boards text)) (dump_says_before (dump_of o map boards text)) o map boards old new

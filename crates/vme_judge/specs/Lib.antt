@@ -1,5 +1,8 @@
 pub mod Faults
 pub mod Seen
+pub mod Forgetting
+pub mod LogLines
+pub mod FindingTexts
 pub mod Standing
 pub mod Samples
 pub mod Openings

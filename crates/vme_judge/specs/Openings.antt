@@ -59,7 +59,7 @@ opening_answers o boards =
 -- what is remembered before the first sample
 unfoldable pub opening : Options → List Board → Standing
 opening o boards = record {
-  once = o.limit == 1;
+  options = o;
   scope = opening_scope o;
   presence = no_lines;
   boards = boards;
@@ -67,4 +67,7 @@ opening o boards = record {
   answers = opening_answers o boards;
   counts = no_counts;
   transfer = None;
+  found = 0;
+  is_under = false;
+  said = [];
 }

@@ -4,7 +4,6 @@ use Rattle.std.specs.Int.{w32, trailing_zeros}
 use Rattle.std.specs.Option.{option_map}
 use Rattle.vme_protocol.specs.declared.datum.Datum.{Datum}
 use Rattle.vme_protocol.specs.declared.sample.Sample.{Sample}
-use Rattle.vme_protocol.specs.Samples.{is_at_rest}
 use Rattle.vme_judge.specs.declared.counts.Counts.{Counts}
 use Rattle.vme_judge.specs.declared.transfer.OpenTransfer.{OpenTransfer}
 
@@ -31,11 +30,6 @@ begins_transfer before s = before.address_strobe && not s.address_strobe
 -- whether AS* rises
 abbrev pub ends_transfer : Sample → Sample → Bool
 ends_transfer before s = not before.address_strobe && s.address_strobe
-
--- what is counted of a sample before the first at rest, or of that one
-abbrev pub counts_waiting : Sample → Counts → Counts
-counts_waiting s c =
-    if is_at_rest s then record c { samples = one_more c.samples } else record c { skipped = one_more c.skipped }
 
 -- what is counted as a transfer and a tenure begin; a transfer with IACK* low is none that is counted
 abbrev pub counts_opened : Sample → Sample → Counts → Counts

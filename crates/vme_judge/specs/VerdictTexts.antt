@@ -1,8 +1,7 @@
 -- The text of a verdict: why a trace is rejected, what is found, or what was seen of it; what it lacks, and what is assumed.
-use Rattle.std.specs.Prelude.{ℕ, Bool, true, false, not, ◌==◌, ◌&&◌, ◌||◌, if◌then◌else◌, List, [], ◌++◌, codes, flat_map, Option, Some, None, is_some}
+use Rattle.std.specs.Prelude.{ℕ, Bool, true, false, not, ◌==◌, ◌&&◌, ◌||◌, if◌then◌else◌, List, [], ◌++◌, codes, Option, Some, None, is_some}
 use Rattle.std.specs.Fmt.{decimal}
 use Rattle.std.specs.Option.{unwrap_or}
-use Rattle.std.specs.Str.Lines.{lines}
 use Rattle.vme_line_map.specs.Variables.{Map}
 use Rattle.vme_vcd_reader.specs.declared.presence.Presence.{Presence}
 use Rattle.vme_judge.specs.declared.boards.Board.{Board}
@@ -17,8 +16,8 @@ use Rattle.vme_judge.specs.declared.run.Kind.{Kind}
 use Rattle.vme_judge.specs.declared.run.Kind.TheVariants as kinds
 use Rattle.vme_judge.specs.declared.run.Run.{Run}
 use Rattle.vme_judge.specs.AssumedTexts.{absent, assumed, list_line, ports_shown}
-use Rattle.vme_judge.specs.JsonTexts.{finding_json, verdict_json}
-use Rattle.vme_judge.specs.Messages.{message}
+use Rattle.vme_judge.specs.FindingTexts.{beside, finding_text}
+use Rattle.vme_judge.specs.JsonTexts.{verdict_json}
 use Rattle.vme_judge.specs.RejectionTexts.{rejected_text}
 
 -- a count and the word for what is counted, in the plural unless the count is 1
@@ -115,10 +114,6 @@ ending_status e =
 abbrev pub rejection_of : Option Rejection → Rejection
 rejection_of rejection = unwrap_or rejection (record { why = whys.Nothing; line = None })
 
--- a finding, as asked
-abbrev pub finding_text : Options → Finding → List ℕ
-finding_text o f = if o.json then finding_json o.name.now f else message o.name.now f
-
 -- the finding at the end of a trace, if there is one
 abbrev pub last_finding : Options → Option Finding → List ℕ
 last_finding o None = []
@@ -161,22 +156,6 @@ abbrev pub text_by : Options → Map → List Board → Ending → Status → Li
 text_by o map boards e statuses.Rejected = rejected_text o.json o.name.now map (rejection_of e.rejection)
 text_by o map boards e statuses.Illegal = last_finding o e.finding ++ rest_text o boards e statuses.Illegal
 text_by o map boards e statuses.Legal = last_finding o e.finding ++ rest_text o boards e statuses.Legal
-
--- a comment of a log
-abbrev pub comment : List ℕ → List ℕ
-comment line = codes "# " ++ line ++ codes "\n"
-
--- lines as comments of a log
-unfoldable pub commented : List ℕ → List ℕ
-commented text = flat_map comment (lines text)
-
--- a text beside a bus log: its lines are comments
-abbrev pub beside : Bool → List ℕ → List ℕ
-beside log text = if log then commented text else text
-
--- a finding after which the judgement goes on, unless nothing is to be printed
-abbrev pub found_text : Options → Finding → List ℕ
-found_text o f = if o.quiet then [] else beside o.log (finding_text o f)
 
 -- the text of a verdict; beside a bus log its lines are comments
 unfoldable pub verdict_text : Options → Map → List Board → Ending → List ℕ

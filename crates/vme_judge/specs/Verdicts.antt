@@ -1,11 +1,9 @@
--- The status of a bus log.
-use Rattle.std.specs.Prelude.{◌≡◌, ◌≢◌, ℕ, Bool, true, not, ◌==◌, ◌||◌, if◌then◌else◌, ◌⊎◌, List, [], ◌∷◌, None}
+-- The verdict on a bus log.
+use Rattle.std.specs.Prelude.{ℕ, Bool, true, not, ◌==◌, ◌||◌, if◌then◌else◌, List, [], ◌∷◌, None}
 use Rattle.vme_bus_log.specs.Texts.{log_says}
 use Rattle.vme_judge.specs.declared.boards.Board.{Board}
-use Rattle.vme_judge.specs.declared.fault.Status.{Status}
-use Rattle.vme_judge.specs.declared.fault.Status.TheVariants.{Rejected}
 use Rattle.vme_judge.specs.declared.options.Options.{Options}
-use Rattle.vme_judge.specs.Logs.{LogSoFar, Legal, is_illegal, log_taken, status_of}
+use Rattle.vme_judge.specs.Logs.{LogSoFar, Legal, log_taken}
 use Rattle.vme_judge.specs.Openings.{opening}
 
 -- whether a byte is a blank before the first byte of a trace: a space, a tab, a carriage return or a line feed
@@ -20,10 +18,3 @@ is_log (b ∷ text) = if is_space b then is_log text else not (b == 36)
 -- a log, judged line by line from what is remembered before its first line
 unfoldable pub log_of : Options → List Board → List ℕ → LogSoFar
 log_of options boards text = log_taken (Legal (opening options boards) None) 1 (log_says text)
-
--- a status says how a log was judged; where another number of findings than one is asked for, an illegal log may be rejected
--- for a line after the first finding
-abbrev pub IsStatusOf : Options → List Board → List ℕ → Status → Type 0
-IsStatusOf options boards text status =
-    (status ≡ status_of (log_of options boards text))
-    ⊎ ((options.limit ≢ 1) × (is_illegal (log_of options boards text) ≡ true) × (status ≡ Rejected))

@@ -4,7 +4,7 @@ ghost use Rattle.vme_protocol.specs.Ports.{local_between};
 ghost use Rattle.vme_judge.specs.DumpRuns.{shown_by, Takes, TakesShown};
 ghost use Rattle.vme_judge.specs.Dumps.{breach_taken, done_taken, dump_scope, is_among, is_passed, port_taken, ports_after, ports_taken, slots_of, undefined_at, with_presence};
 ghost use Rattle.vme_judge.specs.Logs.{access_taken};
-ghost use Rattle.vme_judge.specs.Standing.{course_map, sample_taken, standing, state_of};
+ghost use Rattle.vme_judge.specs.Standing.{course_map, resumed, sample_taken, standing, state_of, IsStanding};
 
 use crate::boards::Board;
 use crate::judge::{Judge, Spot};
@@ -34,9 +34,7 @@ pub(crate) fn slots_of(boards: &[Board]) -> u32
 
 /// Sets which rules are judged by what a dump has. After a finding nothing is set.
 pub(crate) fn set_scope(judge: &mut Judge<'_>, presence: &Presence)
-    ensures standing { standing judge.new ≡ course_map (with_presence presence.now) (standing judge.old) }
-    ensures options { judge.new.options ≡ judge.old.options }
-    ensures found { judge.new.found ≡ judge.old.found }
+    ensures { standing judge.new ≡ course_map (with_presence presence.now) (standing judge.old) }
 {
     if judge.finding.is_some() {
         return;
@@ -90,7 +88,8 @@ impl Ports {
         changed: u32,
         spot: Spot,
     ) -> Result<bool, AllocError>
-        ensures judged { IfOk result (Takes judge.old judge.new (ports_taken spot bus.now changed 0 self.old.last)) }
+        ensures judged { IsStanding (standing judge.old) →
+            IfOk result (Takes judge.old judge.new (ports_taken spot bus.now changed 0 self.old.last)) }
         ensures shown { IfOk result (λ goes_on. goes_on ≡ true → self.new.last ≡ ports_after bus.now changed 0 self.old.last) }
     {
         if changed == 0 {
@@ -122,7 +121,7 @@ fn take_port(
     now: &Port,
     spot: Spot,
 ) -> Result<bool, AllocError>
-    ensures { IfOk result (Takes judge.old judge.new (port_taken spot slot last now.now)) }
+    ensures { IsStanding (standing judge.old) → IfOk result (Takes judge.old judge.new (port_taken spot slot last now.now)) }
 {
     let Some(last) = last else {
         return Ok(true);
@@ -141,7 +140,7 @@ fn take_done(
     now: &Port,
     spot: Spot,
 ) -> Result<bool, AllocError>
-    ensures { IfOk result (Takes judge.old judge.new (done_taken spot slot (local_between last.now now.now))) }
+    ensures { IsStanding (standing judge.old) → IfOk result (Takes judge.old judge.new (done_taken spot slot (local_between last.now now.now))) }
 {
     match local_access(last, now) {
         Ok(None) => Ok(true),
@@ -157,7 +156,7 @@ fn take_access(
     access: &Local,
     spot: Spot,
 ) -> Result<bool, AllocError>
-    ensures { IfOk result (Takes judge.old judge.new (access_taken spot slot access.now)) }
+    ensures { IsStanding (standing judge.old) → IfOk result (Takes judge.old judge.new (λ m. resumed (access_taken spot slot access.now m))) }
 {
     if judge.access(slot, access, spot)? {
         return Ok(true);
@@ -167,7 +166,7 @@ fn take_access(
 
 /// Takes a rule that a local port breaks.
 fn take_breach(judge: &mut Judge<'_>, slot: u8, rule: Rule, spot: Spot) -> Result<bool, AllocError>
-    ensures { IfOk result (Takes judge.old judge.new (breach_taken spot slot rule)) }
+    ensures { IsStanding (standing judge.old) → IfOk result (Takes judge.old judge.new (λ m. resumed (breach_taken spot slot rule m))) }
 {
     judge.port_breaks(rule, slot, spot);
     judge.goes_on()
@@ -180,7 +179,7 @@ fn take_lines(
     spot: Spot,
     undefined: Option<ControlLine>,
 ) -> Result<bool, AllocError>
-    ensures { IfOk result (Takes judge.old judge.new (sample_taken spot undefined sample.now)) }
+    ensures { IsStanding (standing judge.old) → IfOk result (Takes judge.old judge.new (λ m. resumed (sample_taken spot undefined sample.now m))) }
 {
     if judge.take(sample, spot, undefined)? {
         return Ok(true);
@@ -191,7 +190,7 @@ fn take_lines(
 /// Whether a sample is passed over: nothing has changed, no time is limited, and the samples are
 /// judged already.
 fn is_passed(judge: &Judge<'_>, vcd: &VcdReader<'_>) -> bool
-    ensures { result ≡ is_passed judge.now.options.now (shown_by vcd.now) (state_of judge.now) }
+    ensures { result ≡ is_passed (shown_by vcd.now) (state_of judge.now) }
 {
     !vcd.is_changed() && judge.options.timeout.is_none() && judge.is_judging()
 }
@@ -217,7 +216,8 @@ pub(crate) fn take_sample(
     ports: &mut Ports,
     vcd: &VcdReader<'_>,
 ) -> Result<bool, AllocError>
-    ensures { IfOk result (TakesShown judge.old judge.new ports.old.last ports.new.last (shown_by vcd.now)) }
+    ensures { IsStanding (standing judge.old) →
+        IfOk result (TakesShown judge.old judge.new ports.old.last ports.new.last (shown_by vcd.now)) }
 {
     if is_passed(judge, vcd) {
         judge.pass();

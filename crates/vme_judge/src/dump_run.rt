@@ -10,7 +10,7 @@ ghost use Rattle.vme_judge.specs.declared.run.Kind.TheVariants.{Dump, Unknown};
 ghost use Rattle.vme_judge.specs.Blanks.{AreBlanks, BeginsDump, IsBlankSoFar};
 ghost use Rattle.vme_judge.specs.DumpRuns.{shown_by, BeginsBody, EndsDump, HasReached, Reached, TakesDump, TakesLast, TakesNext};
 ghost use Rattle.vme_judge.specs.Logs.{NoDump};
-ghost use Rattle.vme_judge.specs.Runs.{cause_of, form_after};
+ghost use Rattle.vme_judge.specs.Runs.{cause_of, form_after, is_going, IsGoing};
 
 use crate::dump::{set_scope, take_sample};
 use crate::rejection::Why;
@@ -22,7 +22,8 @@ impl Run<'_> {
     /// Takes the first bytes of a dump, with the blanks before them.
     pub(crate) fn begin_dump(&mut self, bytes: &[u8]) -> Result<bool, AllocError>
         ensures first { (map : Map) (line : List ℕ) → form_after Unknown bytes.now ≡ Dump → IsBlankSoFar map line self.old →
-            IfOk result (BeginsDump map line self.old self.new bytes.now) }
+            IsGoing self.old → IfOk result (BeginsDump map line self.old self.new bytes.now) }
+        ensures going { IsGoing self.old → IfOk result (λ goes_on. goes_on ≡ is_going self.new) }
         ensures kind { IfOk result (λ _. self.new.kind ≡ self.old.kind) }
     {
         let (blanks, text) = cut_blanks(bytes);
@@ -34,8 +35,9 @@ impl Run<'_> {
 
     /// Takes bytes of a dump.
     pub(crate) fn push_dump_all(&mut self, bytes: &[u8]) -> Result<bool, AllocError>
-        ensures dump { (map : Map) (reached : Reached) → HasReached map reached self.old.vcd →
+        ensures dump { (map : Map) (reached : Reached) → HasReached map reached self.old.vcd → IsGoing self.old →
             IfOk result (TakesDump map self.old self.new reached bytes.now) }
+        ensures going { IsGoing self.old → IfOk result (λ goes_on. goes_on ≡ is_going self.new) }
         ensures kind { IfOk result (λ _. self.new.kind ≡ self.old.kind) }
     {
         let mut rest = bytes;
@@ -66,8 +68,9 @@ impl Run<'_> {
     /// Takes a byte of a dump.
     #[inline]
     fn push_dump(&mut self, byte: u8) -> Result<bool, AllocError>
-        ensures dump { (map : Map) (reached : Reached) → HasReached map reached self.old.vcd →
+        ensures dump { (map : Map) (reached : Reached) → HasReached map reached self.old.vcd → IsGoing self.old →
             IfOk result (TakesDump map self.old self.new reached (byte ∷ [])) }
+        ensures going { IsGoing self.old → IfOk result (λ goes_on. goes_on ≡ is_going self.new) }
         ensures kind { IfOk result (λ _. self.new.kind ≡ self.old.kind) }
     {
         match self.vcd.push(byte) {
@@ -79,9 +82,10 @@ impl Run<'_> {
     /// Takes what a dump has completed.
     #[inline]
     fn take_step(&mut self, step: Step) -> Result<bool, AllocError>
-        ensures sample { (shown : Option Shown) → ReportsSample shown step self.old.vcd → IfOk result (TakesNext self.old self.new shown) }
-        ensures header { step ≡ steps.Header → IfOk result (BeginsBody self.old self.new) }
-        ensures more { step ≡ steps.More → IfOk result (λ goes_on. goes_on ≡ true) }
+        ensures sample { (shown : Option Shown) → ReportsSample shown step self.old.vcd → IsGoing self.old →
+            IfOk result (λ _. TakesNext self.old self.new shown) }
+        ensures header { step ≡ steps.Header → IfOk result (λ _. BeginsBody self.old self.new) }
+        ensures going { IsGoing self.old → IfOk result (λ goes_on. goes_on ≡ is_going self.new) }
         ensures kind { IfOk result (λ _. self.new.kind ≡ self.old.kind) }
     {
         match step {
@@ -96,7 +100,8 @@ impl Run<'_> {
 
     /// Takes the sample that a dump has completed.
     fn take_shown(&mut self) -> Result<bool, AllocError>
-        ensures sample { IfOk result (TakesNext self.old self.new (Some (shown_by self.old.vcd))) }
+        ensures sample { IsGoing self.old → IfOk result (λ _. TakesNext self.old self.new (Some (shown_by self.old.vcd))) }
+        ensures going { IsGoing self.old → IfOk result (λ goes_on. goes_on ≡ is_going self.new) }
         ensures kind { IfOk result (λ _. self.new.kind ≡ self.old.kind) }
     {
         take_sample(&mut self.judge, &mut self.ports, &self.vcd)
@@ -122,7 +127,7 @@ impl Run<'_> {
 
     /// Ends a dump, whose last two times may still be open.
     pub(crate) fn end_dump(&mut self) -> Result<(), AllocError>
-        ensures dump { (map : Map) (reached : Reached) → HasReached map reached self.old.vcd →
+        ensures dump { (map : Map) (reached : Reached) → HasReached map reached self.old.vcd → IsGoing self.old →
             IfOk result (λ _. EndsDump map self.old self.new reached) }
         ensures kind { IfOk result (λ _. self.new.kind ≡ self.old.kind) }
     {
@@ -137,7 +142,8 @@ impl Run<'_> {
 
     /// Takes the last samples of a dump.
     fn take_last(&mut self, step: Step) -> Result<(), AllocError>
-        ensures samples { (samples : Samples) → ReportsLast samples step self.old.vcd → IfOk result (λ _. TakesLast self.old self.new samples) }
+        ensures samples { (samples : Samples) → ReportsLast samples step self.old.vcd → IsGoing self.old →
+            IfOk result (λ _. TakesLast self.old self.new samples) }
         ensures kind { IfOk result (λ _. self.new.kind ≡ self.old.kind) }
     {
         let Step::Sample = step else {

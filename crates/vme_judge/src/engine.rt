@@ -1,14 +1,14 @@
 //! The engine of `bendrika judge`.
-ghost use Rattle.std.specs.Prelude.{◌≡◌, true, false, IfOk, IfSome, OnOk};
+ghost use Rattle.std.specs.Prelude.{◌≡◌, true, false, [], ◌++◌, string_bytes, IfOk, IfSome, OnOk};
 ghost use Rattle.std.specs.Io.KnownBytes.{Appends};
 ghost use Rattle.vme_judge.specs.DumpRuns.{dump_so_far};
 ghost use Rattle.vme_judge.specs.Dumps.{dump_status};
-ghost use Rattle.vme_judge.specs.DumpTexts.{IsDumpStatusOf};
-ghost use Rattle.vme_judge.specs.Endings.{unless, verdict_printed, writes_ahead, PrintsDump, PrintsLog};
+ghost use Rattle.vme_judge.specs.DumpTexts.{dump_of};
+ghost use Rattle.vme_judge.specs.Endings.{unless, verdict_printed, PrintsDump, PrintsLog};
 ghost use Rattle.vme_judge.specs.Faults.{is_read_end, is_write_end};
 ghost use Rattle.vme_judge.specs.Logs.{status_of};
 ghost use Rattle.vme_judge.specs.Runs.{run_so_far};
-ghost use Rattle.vme_judge.specs.Verdicts.{is_log, IsStatusOf};
+ghost use Rattle.vme_judge.specs.Verdicts.{is_log, log_of};
 ghost use Rattle.vme_judge.specs.VerdictTexts.{ending_of};
 
 use crate::boards::Board;
@@ -27,8 +27,8 @@ const PIECE: usize = 16_384;
 ///
 /// The trace is judged while it is read: after a sample that is not legal nothing more is read. The
 /// status is that of the text, a log or a dump, if the reader has a byte model. If the writer has one
-/// too, one finding is asked for and no bus log is printed, what is written is the verdict on the
-/// text, and nothing else.
+/// too, what is written is what is said before the verdict, the lines of a bus log and the findings
+/// after which the judgement goes on, and the verdict on the text, and nothing else.
 ///
 /// # Errors
 ///
@@ -47,14 +47,12 @@ pub fn judge_engine<'a, S: Source, W: Sink>(
     ensures read { S.is_marked trace.new ≡ is_read_end result }
     ensures write { W.is_marked writer.new ≡ is_write_end result }
     ensures log { IfSome (S.remaining trace.old) (λ text. is_log text ≡ true →
-        IfOk result (IsStatusOf options.now boards.now text)) }
+        IfOk result (λ status. status ≡ status_of (log_of options.now boards.now text))) }
     ensures dump { IfSome (S.remaining trace.old) (λ text. is_log text ≡ false →
-        IfOk result (IsDumpStatusOf options.now map.now boards.now text)) }
-
-    // What is written, if one finding is asked for and no bus log.
-    ensures log_text { IfSome (S.remaining trace.old) (λ text. is_log text ≡ true → writes_ahead options.now ≡ false →
+        IfOk result (λ status. status ≡ dump_status (dump_of options.now map.now boards.now text))) }
+    ensures log_text { IfSome (S.remaining trace.old) (λ text. is_log text ≡ true →
         OnOk result (PrintsLog options.now map.now boards.now text (W.contents writer.old) (W.contents writer.new))) }
-    ensures dump_text { IfSome (S.remaining trace.old) (λ text. is_log text ≡ false → writes_ahead options.now ≡ false →
+    ensures dump_text { IfSome (S.remaining trace.old) (λ text. is_log text ≡ false →
         OnOk result (PrintsDump options.now map.now boards.now text (W.contents writer.old) (W.contents writer.new))) }
 {
     let mut run = Run::new(alloc, options, map, boards)?;
@@ -70,25 +68,19 @@ pub fn judge_engine<'a, S: Source, W: Sink>(
         if !run.push_all(&buffer[..count])? {
             return written(alloc, &run, options, map, boards, writer);
         }
-        write_pending(options, &mut run.judge.pending, writer)?;
+        write_pending(&mut run.judge.pending, writer)?;
     }
     Err(JudgeFault::TooLong)
 }
 
-/// Writes what is not written yet, if something may be written before the verdict.
-fn write_pending<W: Sink>(
-    options: &Options<'_>,
-    pending: &mut String,
-    writer: &mut W,
-) -> Result<(), JudgeFault>
+/// Writes what is not written yet.
+fn write_pending<W: Sink>(pending: &mut String, writer: &mut W) -> Result<(), JudgeFault>
     requires { W.is_marked writer.old ≡ false }
     ensures read { is_read_end result ≡ false }
     ensures write { W.is_marked writer.new ≡ is_write_end result }
-    ensures alone { writes_ahead options.now ≡ false → writer.new ≡ writer.old }
+    ensures text { OnOk result (Appends (W.contents writer.old) (W.contents writer.new) (string_bytes pending.old)) }
+    ensures cleared { OnOk result (string_bytes pending.new ≡ []) }
 {
-    if !options.writes_ahead() || pending.is_empty() {
-        return Ok(());
-    }
     write_all(writer, pending.as_bytes())?;
     pending.clear();
     Ok(())
@@ -108,12 +100,10 @@ fn written<W: Sink>(
     ensures write { W.is_marked writer.new ≡ is_write_end result }
     ensures status { IfOk result (λ status. status ≡ status_of (run_so_far run.now)) }
     ensures dump { IfOk result (λ status. status ≡ dump_status (dump_so_far run.now)) }
-    ensures text { writes_ahead options.now ≡ false → OnOk result (Appends (W.contents writer.old) (W.contents writer.new)
-        (verdict_printed options.now map.now boards.now (ending_of run.now))) }
+    ensures text { OnOk result (Appends (W.contents writer.old) (W.contents writer.new)
+        (string_bytes run.now.judge.pending ++ verdict_printed options.now map.now boards.now (ending_of run.now))) }
 {
-    if options.writes_ahead() {
-        write_all(writer, run.judge.pending.as_bytes())?;
-    }
+    write_all(writer, run.judge.pending.as_bytes())?;
     let mut text = String::new(alloc);
     let status = write_end(alloc, run, options, map, boards, &mut text)?;
     write_printed(options.quiet, &text, writer)?;

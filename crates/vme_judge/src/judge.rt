@@ -1,9 +1,11 @@
 //! The judgement of a trace, sample by sample.
-ghost use Rattle.std.specs.Prelude.{◌≡◌, ◌||◌, ◌==◌, not, Some, None, IfOk, IsNone, is_some, is_none};
+ghost use Rattle.std.specs.Prelude.{◌≡◌, ◌||◌, ◌==◌, ◌++◌, not, string_bytes, Some, None, IfOk, IsNone, is_some, is_none};
 ghost use Rattle.vme_judge.specs.Dumps.{passed};
+ghost use Rattle.vme_judge.specs.Forgetting.{without_watched};
+ghost use Rattle.vme_judge.specs.LogLines.{datum_printed};
 ghost use Rattle.vme_judge.specs.Logs.{left_out, unstarted};
 ghost use Rattle.vme_judge.specs.Seen.{closed_at, counts_opened, opened_at, with_data, with_datum};
-ghost use Rattle.vme_judge.specs.Standing.{answer_finding, closed, course_map, course_then, datum_judged, found_by, order_finding, sample_judged, sample_taken, shown_judged, slot_of, standing, stands, state_of, IsStanding, KeepsTask};
+ghost use Rattle.vme_judge.specs.Standing.{answer_finding, begun_after, closed, course_map, course_then, datum_judged, found_by, order_finding, sample_judged, sample_taken, shown_judged, slot_of, standing, stands, state_of, without_begun};
 
 use crate::boards::Board;
 use crate::counts::{Counts, count};
@@ -75,8 +77,7 @@ impl Judge<'_> {
     ) -> Result<bool, AllocError>
         ensures standing { IfOk result (λ _.
             standing self.new ≡ course_then (sample_taken spot undefined sample.now) (standing self.old)) }
-        ensures legal { IfOk result (λ legal. IsStanding (standing self.old) → legal ≡ stands (standing self.new)) }
-        ensures task { IfOk result (λ _. KeepsTask self.old self.new) }
+        ensures legal { IfOk result (λ legal. legal ≡ stands (standing self.new)) }
     {
         if self.finding.is_some() {
             return Ok(false);
@@ -91,9 +92,8 @@ impl Judge<'_> {
         spot: Spot,
         undefined: Option<ControlLine>,
     ) -> Result<bool, AllocError>
-        ensures task { IfOk result (λ _. KeepsTask self.old self.new) }
         ensures legal { IfOk result (λ legal. IsNone self.old.finding → legal ≡ is_none self.new.finding) }
-        ensures step { IfOk result (λ _. IsNone self.old.finding → self.old.found ≡ 0 →
+        ensures step { IfOk result (λ _. IsNone self.old.finding →
             found_by self.new.finding (state_of self.new)
             ≡ sample_judged spot undefined sample.now (state_of self.old) self.old.watch) }
     {
@@ -122,11 +122,10 @@ impl Judge<'_> {
         sample: &Sample,
         undefined: Option<ControlLine>,
     )
-        ensures task { KeepsTask self.old self.new }
         ensures found { self.new.finding ≡
             Some (order_finding spot undefined before.now sample.now self.old.transfer rule) }
-        ensures counts { self.new.counts ≡ self.old.counts }
-        ensures transfer { self.new.transfer ≡ None }
+        ensures after { state_of self.new ≡
+            begun_after sample.now (without_begun (not before.now.address_strobe) transfer.now (state_of self.old)) }
     {
         let samples = Some((*before, *sample));
         self.find(spot, Broken::Order(rule), samples, undefined);
@@ -144,7 +143,6 @@ impl Judge<'_> {
         before: &Sample,
         sample: &Sample,
     ) -> Result<bool, AllocError>
-        ensures task { IfOk result (λ _. KeepsTask self.old self.new) }
         ensures legal { IfOk result (λ legal. IsNone self.old.finding → legal ≡ is_none self.new.finding) }
         ensures show { IfOk result (λ _. IsNone self.old.finding →
             found_by self.new.finding (state_of self.new) ≡
@@ -169,7 +167,6 @@ impl Judge<'_> {
     #[tactic(auto, unfolding(crate::specs::Standing::standing))]
     pub(crate) fn skip(&mut self)
         ensures standing { standing self.new ≡ course_map left_out (standing self.old) }
-        ensures task { KeepsTask self.old self.new }
     {
         if self.finding.is_none() {
             count(&mut self.counts.skipped);
@@ -180,7 +177,6 @@ impl Judge<'_> {
     #[tactic(auto, unfolding(crate::specs::Standing::standing))]
     pub(crate) fn pass(&mut self)
         ensures standing { standing self.new ≡ course_map passed (standing self.old) }
-        ensures task { KeepsTask self.old self.new }
     {
         if self.finding.is_none() {
             count(&mut self.counts.samples);
@@ -192,7 +188,6 @@ impl Judge<'_> {
     #[tactic(auto, unfolding(crate::specs::Standing::standing))]
     pub(crate) fn forget_start(&mut self)
         ensures standing { standing self.new ≡ course_map unstarted (standing self.old) }
-        ensures task { KeepsTask self.old self.new }
     {
         if self.finding.is_some() {
             return;
@@ -273,7 +268,9 @@ impl Judge<'_> {
 
     /// Prints the line of a datum, if the bus log is printed.
     fn print_datum(&mut self, datum: &Datum, spot: Spot, sample: &Sample) -> Result<(), AllocError>
-        ensures { IfOk result (λ _. self.new ≡ record self.old { pending = self.new.pending }) }
+        ensures rest { IfOk result (λ _. self.new ≡ record self.old { pending = self.new.pending }) }
+        ensures line { IfOk result (λ _. string_bytes self.new.pending
+            ≡ string_bytes self.old.pending ++ datum_printed self.old.options.now.log spot sample.now datum.now) }
     {
         if !self.options.log {
             return Ok(());
@@ -284,7 +281,6 @@ impl Judge<'_> {
 
     /// Takes the answer to a datum, and returns whether it is that of its board.
     fn answer(&mut self, datum: &Datum, spot: Spot, before: &Sample, sample: &Sample) -> bool
-        ensures task { KeepsTask self.old self.new }
         ensures legal { IsNone self.old.finding → result ≡ is_none self.new.finding }
         ensures answer { IsNone self.old.finding →
             found_by self.new.finding (state_of self.new)
@@ -306,11 +302,11 @@ impl Judge<'_> {
 
     /// Keeps the datum whose answer is wrong.
     fn refuse(&mut self, wrong: &Wrong, datum: &Datum, spot: Spot, before: &Sample, sample: &Sample)
-        ensures task { KeepsTask self.old self.new }
         ensures found { self.new.finding ≡ Some (answer_finding spot self.old.boards.now before.now sample.now
             self.old.transfer datum.now wrong.now) }
-        ensures counts { self.new.counts ≡ self.old.counts }
-        ensures transfer { self.new.transfer ≡ None }
+        ensures after { state_of self.new ≡ begun_after sample.now (record (state_of self.old) {
+          answers = without_watched self.old.boards.now self.old.watch self.old.answers;
+        }) }
     {
         let slot = self.slot_of(wrong);
         let broken = Broken::Answer(*wrong, Asked::Datum(*datum), slot);
@@ -321,9 +317,9 @@ impl Judge<'_> {
 
     /// Forgets the bytes of the transfer in which an answer is wrong.
     fn forget_transfer(&mut self)
-        ensures task { KeepsTask self.old self.new }
-        ensures finding { self.new.finding ≡ self.old.finding }
-        ensures counts { self.new.counts ≡ self.old.counts }
+        ensures { self.new ≡ record self.old {
+          answers = without_watched self.old.boards.now self.old.watch self.old.answers;
+        } }
     {
         if let Some(watch) = &self.watch {
             let transfer = watch.transfer;

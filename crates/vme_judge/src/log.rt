@@ -1,9 +1,9 @@
 //! A bus log, judged: each datum as the samples of a handshake that shows it.
-ghost use Rattle.std.specs.Prelude.{◌≡◌, ◌≢◌, [], ◌∷◌, Option, true, false, Some, None, not, IfOk, is_some};
-ghost use Rattle.vme_judge.specs.declared.log.Taken.TheVariants.{Illegal, Legal};
-ghost use Rattle.vme_judge.specs.Logs.{access_spot, access_taken, addressed_by, begun_by, break_at, break_of, datum_taken, first_taken, is_broken, local_of, shown_by, so_far};
+ghost use Rattle.std.specs.Prelude.{◌≡◌, [], ◌∷◌, true, false, None, not, IfOk};
+ghost use Rattle.vme_judge.specs.LogLines.{lanes_from, lanes_of, log_datum};
+ghost use Rattle.vme_judge.specs.Logs.{access_spot, access_taken, addressed_by, begun_by, break_after, break_of, datum_on, datum_spot, first_taken, local_of, log_by, shown_by};
 ghost use Rattle.vme_judge.specs.Samples.{address_lines, datum_samples, driver_bit, handshake_samples, lines_of, quiet, with_data};
-ghost use Rattle.vme_judge.specs.Standing.{course_then, samples_taken, standing, stands, Falls, Found, HasFallen, IsOnce, IsStanding, KeepsTask, Standing, Stands};
+ghost use Rattle.vme_judge.specs.Standing.{course_then, resumed, samples_taken, standing, stands, IsStanding, Standing, Stands};
 
 use crate::judge::{Judge, Spot};
 use std::alloc::AllocError;
@@ -26,16 +26,11 @@ pub(crate) struct LogState {
     last: Option<LogDatum>,
 }
 
-/// How a line of a log was taken.
-#[derive(Clone, Copy, Debug, PartialEq, Eq)]
-pub(crate) enum Taken {
-    Legal,
-    Illegal,
-    Broken(LogBreak),
-}
-
 /// Returns the line of a log for a datum.
-pub(crate) fn log_datum(datum: &Datum, time: Option<u64>, slot: Option<u8>) -> LogDatum {
+#[tactic(auto, unfolding(crate::specs::LogLines::log_datum))]
+pub(crate) fn log_datum(datum: &Datum, time: Option<u64>, slot: Option<u8>) -> LogDatum
+    ensures { result ≡ log_datum datum.now time slot }
+{
     let is_wide = datum.len == 8;
     let shows = !datum.write || !datum.dtack;
     let used = if shows { lanes_of(datum) } else { 0 };
@@ -58,15 +53,23 @@ pub(crate) fn log_datum(datum: &Datum, time: Option<u64>, slot: Option<u8>) -> L
 }
 
 /// The lines of the lanes of a datum.
-pub(crate) fn lanes_of(datum: &Datum) -> u64 {
-    let after = 8u32
-        .saturating_sub(u32::from(datum.lane))
-        .saturating_sub(u32::from(datum.len));
-    let mut used: u64 = 0;
-    for _ in 0..datum.len {
-        used = used.wrapping_shl(8) | 255;
+fn lanes_of(datum: &Datum) -> u64
+    ensures { result ≡ lanes_of datum.now }
+{
+    let lane = u32::from(datum.lane);
+    let end = lane + u32::from(datum.len);
+    lanes_from(lane).saturating_sub(lanes_from(end))
+}
+
+/// The lines of the lanes from one of eight on.
+fn lanes_from(lane: u32) -> u64
+    ensures { result ≡ lanes_from lane }
+{
+    if lane < 8 {
+        u64::MAX.wrapping_shr(8 * lane)
+    } else {
+        0
     }
-    used.wrapping_shl(8 * after.min(7))
 }
 
 /// The bit of the slot that drives BBSY*, if it is known.
@@ -158,7 +161,18 @@ impl LogState {
         LogState { last: None }
     }
 
-    /// Takes a datum.
+    /// Why a datum does not go on from the line before, if it does not.
+    pub(crate) fn break_after(&self, datum: &LogDatum) -> Option<LogBreak>
+        ensures { result ≡ break_after self.now.last datum.now }
+    {
+        let last = self.last?;
+        if datum.index == 0 {
+            return None;
+        }
+        break_of(&last, datum)
+    }
+
+    /// Takes a datum that goes on from the line before, and returns whether the judgement goes on.
     ///
     /// # Errors
     ///
@@ -168,16 +182,10 @@ impl LogState {
         judge: &mut Judge<'_>,
         datum: &LogDatum,
         line: u64,
-    ) -> Result<Taken, AllocError>
-        ensures taken { (m : Standing) → standing judge.old ≡ Stands m → IfOk result (λ taken.
-            so_far (is_broken taken) (break_at line taken) (standing judge.new) self.new.last ≡ datum_taken line m self.old.last datum.now) }
-        ensures stays { (found : Option Found) → standing judge.old ≡ Falls found →
-            IfOk result (λ _. standing judge.new ≡ Falls found) }
-        ensures breaks { IfOk result (λ taken. is_broken taken ≡ true → standing judge.new ≡ standing judge.old) }
-        ensures stops { IfOk result (λ taken. taken ≡ Illegal → HasFallen (standing judge.new)) }
-        ensures once { IfOk result (λ taken. IsOnce judge.old → IsOnce judge.new) }
-        ensures ends { IfOk result (λ taken. IsOnce judge.old → taken ≡ Legal → IsStanding (standing judge.old) →
-            IsStanding (standing judge.new)) }
+    ) -> Result<bool, AllocError>
+        ensures taken { (m : Standing) → standing judge.old ≡ Stands m → IfOk result (λ _.
+            log_by self.new.last (standing judge.new) ≡ datum_on (datum_spot line datum.now) m self.old.last datum.now) }
+        ensures goes { IsStanding (standing judge.old) → IfOk result (λ goes_on. goes_on ≡ stands (standing judge.new)) }
     {
         let spot = Spot {
             line,
@@ -186,13 +194,10 @@ impl LogState {
         if datum.index == 0 {
             return self.begin(judge, datum, spot);
         }
-        let Some(last) = self.last else {
+        if self.last.is_none() {
             // A log may begin within a transfer, which is not judged.
             judge.skip();
-            return Ok(Taken::Legal);
-        };
-        if let Some(broken) = break_of(&last, datum) {
-            return Ok(Taken::Broken(broken));
+            return Ok(true);
         }
         self.exchange(judge, datum, spot)
     }
@@ -203,14 +208,10 @@ impl LogState {
         judge: &mut Judge<'_>,
         datum: &LogDatum,
         spot: Spot,
-    ) -> Result<Taken, AllocError>
-        ensures taken { IfOk result (λ taken. so_far (is_broken taken) (break_at spot.line taken) (standing judge.new) self.new.last ≡
-            shown_by (Some datum.now) (course_then (first_taken spot datum.now) (standing judge.old))) }
-        ensures whole { IfOk result (λ taken. is_broken taken ≡ false) }
-        ensures stops { IfOk result (λ taken. taken ≡ Illegal → HasFallen (standing judge.new)) }
-        ensures once { IfOk result (λ taken. IsOnce judge.old → IsOnce judge.new) }
-        ensures ends { IfOk result (λ taken. IsOnce judge.old → taken ≡ Legal → IsStanding (standing judge.old) →
-            IsStanding (standing judge.new)) }
+    ) -> Result<bool, AllocError>
+        ensures taken { IsStanding (standing judge.old) → IfOk result (λ _. log_by self.new.last (standing judge.new)
+            ≡ shown_by datum.now (course_then (first_taken spot datum.now) (standing judge.old))) }
+        ensures goes { IsStanding (standing judge.old) → IfOk result (λ goes_on. goes_on ≡ stands (standing judge.new)) }
     {
         let is_legal = open(judge, datum, spot)?;
         if is_legal {
@@ -225,78 +226,59 @@ impl LogState {
         judge: &mut Judge<'_>,
         datum: &LogDatum,
         spot: Spot,
-    ) -> Result<Taken, AllocError>
-        ensures taken { IfOk result (λ taken. so_far (is_broken taken) (break_at spot.line taken) (standing judge.new) self.new.last ≡
-            shown_by (Some datum.now) (course_then (samples_taken spot (datum_samples datum.now)) (standing judge.old))) }
-        ensures whole { IfOk result (λ taken. is_broken taken ≡ false) }
-        ensures stops { IfOk result (λ taken. taken ≡ Illegal → HasFallen (standing judge.new)) }
-        ensures once { IfOk result (λ taken. IsOnce judge.old → IsOnce judge.new) }
-        ensures ends { IfOk result (λ taken. IsOnce judge.old → taken ≡ Legal → IsStanding (standing judge.old) →
-            IsStanding (standing judge.new)) }
+    ) -> Result<bool, AllocError>
+        ensures taken { IsStanding (standing judge.old) → IfOk result (λ _. log_by self.new.last (standing judge.new)
+            ≡ shown_by datum.now (course_then (samples_taken spot (datum_samples datum.now)) (standing judge.old))) }
+        ensures goes { IsStanding (standing judge.old) → IfOk result (λ goes_on. goes_on ≡ stands (standing judge.new)) }
     {
         self.last = Some(*datum);
         let lines = with_data(datum, quiet(datum, false));
         let is_legal = handshake(judge, datum, lines, spot, datum.is_acknowledged)?;
         if is_legal {
-            return Ok(Taken::Legal);
+            return Ok(true);
         }
         self.illegal(judge)
     }
 
     /// Takes an illegal datum: if the judgement goes on, the rest of its transfer is left out.
-    fn illegal(&mut self, judge: &mut Judge<'_>) -> Result<Taken, AllocError>
-        ensures stands { IfOk result (λ taken. standing judge.new ≡ standing judge.old) }
-        ensures whole { IfOk result (λ taken. is_broken taken ≡ false) }
-        ensures stops { IfOk result (λ taken. taken ≡ Illegal → HasFallen (standing judge.new)) }
-        ensures once { IfOk result (λ taken. IsOnce judge.old → IsOnce judge.new) }
-        ensures ends { IfOk result (λ taken. IsOnce judge.old → HasFallen (standing judge.old) → taken ≢ Legal) }
+    fn illegal(&mut self, judge: &mut Judge<'_>) -> Result<bool, AllocError>
+        ensures taken { IfOk result (λ _. standing judge.new ≡ resumed (standing judge.old)) }
+        ensures last { self.new.last ≡ None }
+        ensures goes { IfOk result (λ goes_on. goes_on ≡ stands (standing judge.new)) }
     {
         self.last = None;
-        Ok(if judge.goes_on()? {
-            Taken::Legal
-        } else {
-            Taken::Illegal
-        })
+        judge.goes_on()
     }
+}
 
-    /// Takes an access by a local port.
-    ///
-    /// # Errors
-    ///
-    /// An allocation failed.
-    pub(crate) fn access(
-        &mut self,
-        judge: &mut Judge<'_>,
-        access: &LogAccess,
-        line: u64,
-    ) -> Result<Taken, AllocError>
-        ensures taken { IfOk result (λ taken. so_far (is_broken taken) (break_at line taken) (standing judge.new) self.new.last ≡
-            shown_by self.old.last (course_then (access_taken (access_spot line access.now) access.now.slot (local_of access.now))
-            (standing judge.old))) }
-        ensures whole { IfOk result (λ taken. is_broken taken ≡ false) }
-        ensures stops { IfOk result (λ taken. taken ≡ Illegal → HasFallen (standing judge.new)) }
-        ensures once { IfOk result (λ taken. IsOnce judge.old → IsOnce judge.new) }
-        ensures ends { IfOk result (λ taken. IsOnce judge.old → taken ≡ Legal → IsStanding (standing judge.old) →
-            IsStanding (standing judge.new)) }
-    {
-        let spot = Spot {
-            line,
-            time: access.time,
-        };
-        let local = Local {
-            write: access.is_write,
-            offset: access.offset,
-            len: access.len,
-            data: access.bytes,
-        };
-        if judge.access(access.slot, &local, spot)? {
-            return Ok(Taken::Legal);
-        }
-        if judge.goes_on()? {
-            return Ok(Taken::Legal);
-        }
-        Ok(Taken::Illegal)
+/// Takes a local access of a line, and returns whether the judgement goes on.
+///
+/// # Errors
+///
+/// An allocation failed.
+pub(crate) fn take_access(
+    judge: &mut Judge<'_>,
+    access: &LogAccess,
+    line: u64,
+) -> Result<bool, AllocError>
+    ensures taken { IsStanding (standing judge.old) → IfOk result (λ _. standing judge.new ≡ course_then
+        (λ m. resumed (access_taken (access_spot line access.now) access.now.slot (local_of access.now) m)) (standing judge.old)) }
+    ensures goes { IfOk result (λ goes_on. goes_on ≡ stands (standing judge.new)) }
+{
+    let spot = Spot {
+        line,
+        time: access.time,
+    };
+    let local = Local {
+        write: access.is_write,
+        offset: access.offset,
+        len: access.len,
+        data: access.bytes,
+    };
+    if judge.access(access.slot, &local, spot)? {
+        return Ok(true);
     }
+    judge.goes_on()
 }
 
 /// Takes samples, and returns whether all are legal.
@@ -304,7 +286,6 @@ fn take_all(judge: &mut Judge<'_>, samples: &[Sample], spot: Spot) -> Result<boo
     ensures standing { IfOk result (λ _.
         standing judge.new ≡ course_then (samples_taken spot samples.now) (standing judge.old)) }
     ensures legal { IfOk result (λ legal. IsStanding (standing judge.old) → legal ≡ stands (standing judge.new)) }
-    ensures task { IfOk result (λ _. KeepsTask judge.old judge.new) }
 {
     for sample in samples {
         let is_legal = judge.take(sample, spot, None)?;
@@ -320,7 +301,6 @@ fn open(judge: &mut Judge<'_>, datum: &LogDatum, spot: Spot) -> Result<bool, All
     ensures standing { IfOk result (λ _.
         standing judge.new ≡ course_then (addressed_by spot datum.now) (standing judge.old)) }
     ensures legal { IfOk result (λ legal. IsStanding (standing judge.old) → legal ≡ stands (standing judge.new)) }
-    ensures task { IfOk result (λ _. KeepsTask judge.old judge.new) }
 {
     if !datum.is_wide {
         return fall(judge, datum, spot);
@@ -336,7 +316,6 @@ fn open(judge: &mut Judge<'_>, datum: &LogDatum, spot: Spot) -> Result<bool, All
 fn fall(judge: &mut Judge<'_>, datum: &LogDatum, spot: Spot) -> Result<bool, AllocError>
     ensures standing { IfOk result (λ _. standing judge.new ≡ course_then (begun_by spot datum.now) (standing judge.old)) }
     ensures legal { IfOk result (λ legal. IsStanding (standing judge.old) → legal ≡ stands (standing judge.new)) }
-    ensures task { IfOk result (λ _. KeepsTask judge.old judge.new) }
 {
     let begins = take_all(judge, &[quiet(datum, true), quiet(datum, false)], spot)?;
     judge.forget_start();
@@ -355,7 +334,6 @@ fn handshake(
     ensures standing { IfOk result (λ _. standing judge.new ≡
         course_then (samples_taken spot (handshake_samples datum.now quiet is_acknowledged)) (standing judge.old)) }
     ensures legal { IfOk result (λ legal. IsStanding (standing judge.old) → legal ≡ stands (standing judge.new)) }
-    ensures task { IfOk result (λ _. KeepsTask judge.old judge.new) }
 {
     let strobed = Sample {
         ds1: datum.ds1,

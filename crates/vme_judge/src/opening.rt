@@ -105,8 +105,6 @@ impl<'a> Judge<'a> {
         boards: &'a [Board],
     ) -> Result<Judge<'a>, AllocError>
         ensures opens { IfOk result (λ judge. standing judge ≡ Stands (opening options.now boards.now)) }
-        ensures options { IfOk result (λ judge. judge.options.now ≡ options.now) }
-        ensures found { IfOk result (λ judge. judge.found ≡ 0) }
     {
         Ok(Judge {
             alloc,

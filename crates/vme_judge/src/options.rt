@@ -1,6 +1,5 @@
 //! What is asked of a judgement.
 ghost use Rattle.std.specs.Prelude.{◌≡◌};
-ghost use Rattle.vme_judge.specs.Endings.{writes_ahead};
 ghost use Rattle.vme_judge.specs.Openings.{has_answers};
 
 /// Bytes of a board that may be written unseen: all, or those at offsets from `from` to before `to`.
@@ -45,13 +44,5 @@ impl Options<'_> {
         ensures { result ≡ has_answers self.now }
     {
         !self.protocol && !self.log
-    }
-
-    /// Returns whether something may be written before the verdict: the lines of the bus log, or
-    /// findings after which the judgement goes on.
-    pub(crate) fn writes_ahead(&self) -> bool
-        ensures { result ≡ writes_ahead self.now }
-    {
-        self.log || self.limit != 1
     }
 }

@@ -1,8 +1,7 @@
 //! A trace, byte by byte.
-ghost use Rattle.std.specs.Prelude.{◌≡◌, ◌≢◌, ◌||◌, ℕ, List, [], ◌∷◌, ◌++◌, true, false, Ok, Some, None, replicate, is_some, IfOk, if◌then◌else◌};
+ghost use Rattle.std.specs.Prelude.{◌≡◌, ℕ, List, [], ◌∷◌, ◌++◌, true, Ok, Some, None, replicate, is_some, IfOk, if◌then◌else◌};
 ghost use Rattle.vme_judge.specs.declared.run.Kind.TheVariants.{Dump, Unknown};
-ghost use Rattle.vme_judge.specs.declared.log.Taken.TheVariants.{Legal};
-ghost use Rattle.vme_bus_log.specs.declared.entry.LogEntry.TheVariants.{Nothing};
+ghost use Rattle.vme_bus_log.specs.declared.entry.LogEntry.TheVariants.{Datum, Nothing};
 ghost use Rattle.vme_bus_log.specs.Texts.{EndsNoLine};
 ghost use Rattle.vme_line_map.specs.Variables.{Map};
 ghost use Rattle.vme_vcd_reader.specs.Headers.{beginning};
@@ -10,21 +9,19 @@ ghost use Rattle.vme_vcd_reader.specs.Readers.{IsHeader};
 ghost use Rattle.vme_judge.specs.Blanks.{AreBlanks, IsAtStart, IsBlankLine, IsBlankSoFar, line_past, SkipsBlanks, TakesBlanks, TakesFirst, TakesFurther};
 ghost use Rattle.vme_judge.specs.DumpRuns.{dump_so_far, EndsDump, HasReached, Reached, TakesPiece};
 ghost use Rattle.vme_judge.specs.Dumps.{Legal as LegalDump};
-ghost use Rattle.vme_judge.specs.Logs.{break_at, is_broken};
 ghost use Rattle.vme_judge.specs.Logs.{Legal as LegalSoFar};
 ghost use Rattle.vme_judge.specs.Openings.{opening};
-ghost use Rattle.vme_judge.specs.Standing.{standing};
-ghost use Rattle.vme_judge.specs.Runs.{cause_by, cause_of, form_after, is_no_dump, log_whole, run_so_far, IsGoing, IsJudgedAs, IsOnceRun, IsOver, Judges, JudgesLine, KeepsReader, RunsOnce, StaysFound, TakesLine, TakesLog};
+ghost use Rattle.vme_judge.specs.Runs.{cause_by, cause_of, form_after, is_going, is_no_dump, log_whole, run_so_far, IsGoing, Judges, KeepsReader, TakesLine, TakesLog};
 ghost use Rattle.vme_judge.specs.Verdicts.{is_space};
 
 use crate::boards::Board;
 use crate::dump::Ports;
 use crate::judge::Judge;
-use crate::log::{LogState, Taken};
+use crate::log::{LogState, take_access};
 use crate::options::Options;
 use crate::rejection::{Rejection, Why};
 use std::alloc::{AllocError, Global};
-use vme_bus_log::{LogEntry, LogReader, cut_line};
+use vme_bus_log::{LogDatum, LogEntry, LogReader, cut_line};
 use vme_line_map::LineMap;
 use vme_vcd_reader::VcdReader;
 
@@ -64,8 +61,6 @@ impl<'a> Run<'a> {
         ensures dump { IfOk result (λ run. dump_so_far run ≡ LegalDump (opening options.now boards.now) (replicate 21 None)) }
         ensures reader { IfOk result (λ run. IsAtStart map.now run.vcd) }
         ensures going { IfOk result IsGoing }
-        ensures options { IfOk result (λ run. run.judge.options.now ≡ options.now) }
-        ensures found { IfOk result (λ run. run.judge.found ≡ 0) }
         ensures line { IfOk result (λ run. run.log.line ≡ []) }
         ensures number { IfOk result (λ run. run.log.number ≡ 1) }
         ensures kind { IfOk result (λ run. run.kind ≡ Unknown) }
@@ -93,14 +88,15 @@ impl<'a> Run<'a> {
     ///
     /// An allocation failed.
     pub(crate) fn push_all(&mut self, bytes: &[u8]) -> Result<bool, AllocError>
-        ensures log { IfOk result (λ goes_on. is_no_dump (form_after self.old.kind bytes.now) ≡ true →
-            TakesLog self.old self.new bytes.now goes_on) }
+        ensures going { IsGoing self.old → IfOk result (λ goes_on. goes_on ≡ is_going self.new) }
+        ensures log { is_no_dump (form_after self.old.kind bytes.now) ≡ true → IsGoing self.old →
+            IfOk result (λ _. TakesLog self.old self.new bytes.now) }
         ensures blanks { (map : Map) (line : List ℕ) → self.old.kind ≡ Unknown → AreBlanks bytes.now →
             IsBlankSoFar map line self.old → IfOk result (TakesFurther map line self.old self.new bytes.now) }
         ensures first { (map : Map) (line : List ℕ) → self.old.kind ≡ Unknown → form_after Unknown bytes.now ≡ Dump →
-            IsBlankSoFar map line self.old → IfOk result (TakesFirst map line self.old self.new bytes.now) }
-        ensures dump { (map : Map) (reached : Reached) → self.old.kind ≡ Dump →
-            HasReached map reached self.old.vcd → IfOk result (TakesPiece map self.old self.new reached bytes.now) }
+            IsBlankSoFar map line self.old → IsGoing self.old → IfOk result (TakesFirst map line self.old self.new bytes.now) }
+        ensures dump { (map : Map) (reached : Reached) → self.old.kind ≡ Dump → HasReached map reached self.old.vcd →
+            IsGoing self.old → IfOk result (TakesPiece map self.old self.new reached bytes.now) }
     {
         match self.kind {
             Kind::Dump => self.push_dump_all(bytes),
@@ -111,12 +107,13 @@ impl<'a> Run<'a> {
 
     /// Takes bytes before the form is known: that of the first one that is no blank.
     fn push_unknown(&mut self, bytes: &[u8]) -> Result<bool, AllocError>
-        ensures log { IfOk result (λ goes_on. is_no_dump (form_after Unknown bytes.now) ≡ true →
-            self.old.kind ≡ Unknown → TakesLog self.old self.new bytes.now goes_on) }
+        ensures going { IsGoing self.old → IfOk result (λ goes_on. goes_on ≡ is_going self.new) }
+        ensures log { is_no_dump (form_after Unknown bytes.now) ≡ true → self.old.kind ≡ Unknown → IsGoing self.old →
+            IfOk result (λ _. TakesLog self.old self.new bytes.now) }
         ensures blanks { (map : Map) (line : List ℕ) → AreBlanks bytes.now → IsBlankSoFar map line self.old →
             IfOk result (TakesFurther map line self.old self.new bytes.now) }
         ensures first { (map : Map) (line : List ℕ) → form_after Unknown bytes.now ≡ Dump → IsBlankSoFar map line self.old →
-            IfOk result (TakesFirst map line self.old self.new bytes.now) }
+            IsGoing self.old → IfOk result (TakesFirst map line self.old self.new bytes.now) }
     {
         self.kind = form_of(bytes);
         match self.kind {
@@ -128,10 +125,8 @@ impl<'a> Run<'a> {
 
     /// Takes blanks before the form is known, which are lines of either.
     pub(crate) fn push_blanks(&mut self, bytes: &[u8]) -> Result<bool, AllocError>
-        ensures judges { IfOk result (λ _. Judges self.old self.new bytes.now) }
-        ensures stays { IfOk result (λ _. StaysFound self.old self.new) }
-        ensures stops { IfOk result (λ goes_on. goes_on ≡ false → IsOver (run_so_far self.new)) }
-        ensures once { IfOk result (λ goes_on. RunsOnce self.old self.new goes_on) }
+        ensures going { IsGoing self.old → IfOk result (λ goes_on. goes_on ≡ is_going self.new) }
+        ensures judges { IsGoing self.old → IfOk result (λ _. Judges self.old self.new bytes.now) }
         ensures kind { IfOk result (λ _. self.new.kind ≡ self.old.kind) }
         ensures blanks { (map : Map) (line : List ℕ) → AreBlanks bytes.now → IsBlankSoFar map line self.old →
             IfOk result (SkipsBlanks map line self.old self.new bytes.now) }
@@ -142,10 +137,8 @@ impl<'a> Run<'a> {
 
     /// Takes bytes of a log.
     fn push_log_all(&mut self, bytes: &[u8]) -> Result<bool, AllocError>
-        ensures judges { IfOk result (λ _. Judges self.old self.new bytes.now) }
-        ensures stays { IfOk result (λ _. StaysFound self.old self.new) }
-        ensures stops { IfOk result (λ goes_on. goes_on ≡ false → IsOver (run_so_far self.new)) }
-        ensures once { IfOk result (λ goes_on. RunsOnce self.old self.new goes_on) }
+        ensures going { IsGoing self.old → IfOk result (λ goes_on. goes_on ≡ is_going self.new) }
+        ensures judges { IsGoing self.old → IfOk result (λ _. Judges self.old self.new bytes.now) }
         ensures kind { IfOk result (λ _. self.new.kind ≡ self.old.kind) }
         ensures vcd { IfOk result (λ _. self.new.vcd ≡ self.old.vcd) }
         ensures blanks { (line : List ℕ) → AreBlanks bytes.now → IsBlankLine line self.old.log →
@@ -166,10 +159,8 @@ impl<'a> Run<'a> {
     /// Takes the rest of a line of a log, without its line feed.
     fn push_line(&mut self, line: &[u8]) -> Result<bool, AllocError>
         requires { EndsNoLine line.now }
-        ensures judges { IfOk result (λ _. JudgesLine self.old self.new line.now) }
-        ensures stays { IfOk result (λ _. StaysFound self.old self.new) }
-        ensures stops { IfOk result (λ goes_on. goes_on ≡ false → IsOver (run_so_far self.new)) }
-        ensures once { IfOk result (λ goes_on. RunsOnce self.old self.new goes_on) }
+        ensures going { IsGoing self.old → IfOk result (λ goes_on. goes_on ≡ is_going self.new) }
+        ensures judges { IsGoing self.old → IfOk result (λ _. Judges self.old self.new (line.now ++ 10 ∷ [])) }
         ensures kind { IfOk result (λ _. self.new.kind ≡ self.old.kind) }
         ensures vcd { IfOk result (λ _. self.new.vcd ≡ self.old.vcd) }
         ensures blanks { (begin : List ℕ) → AreBlanks line.now → IsBlankLine begin self.old.log →
@@ -203,10 +194,8 @@ impl<'a> Run<'a> {
 
     /// Takes what a line of a log says.
     fn take_entry(&mut self, entry: &LogEntry, line: u64) -> Result<bool, AllocError>
-        ensures line { IfOk result (λ _. TakesLine self.old self.new line (Ok entry.now)) }
-        ensures stays { IfOk result (λ _. StaysFound self.old self.new) }
-        ensures stops { IfOk result (λ goes_on. goes_on ≡ false → IsOver (run_so_far self.new)) }
-        ensures once { IfOk result (λ goes_on. RunsOnce self.old self.new goes_on) }
+        ensures going { IsGoing self.old → IfOk result (λ goes_on. goes_on ≡ is_going self.new) }
+        ensures line { IsGoing self.old → IfOk result (λ _. TakesLine self.old self.new line (Ok entry.now)) }
         ensures log { IfOk result (λ _. self.new.log ≡ self.old.log) }
         ensures kind { IfOk result (λ _. self.new.kind ≡ self.old.kind) }
         ensures vcd { IfOk result (λ _. self.new.vcd ≡ self.old.vcd) }
@@ -214,37 +203,24 @@ impl<'a> Run<'a> {
     {
         match entry {
             LogEntry::Nothing => Ok(true),
-            LogEntry::Datum(datum) => {
-                let taken = self.state.datum(&mut self.judge, datum, line)?;
-                Ok(self.take_taken(taken, line))
-            }
-            LogEntry::Access(access) => {
-                let taken = self.state.access(&mut self.judge, access, line)?;
-                Ok(self.take_taken(taken, line))
-            }
+            LogEntry::Datum(datum) => self.take_datum(datum, line),
+            LogEntry::Access(access) => take_access(&mut self.judge, access, line),
         }
     }
 
-    /// Returns whether the judgement goes on after a line, and rejects one that does not go on from
-    /// the line before.
-    fn take_taken(&mut self, taken: Taken, line: u64) -> bool
-        ensures rejected { is_some self.new.rejection ≡ (is_broken taken || is_some self.old.rejection) }
-        ensures kept { is_broken taken ≡ false → self.new.rejection ≡ self.old.rejection }
-        ensures cause { cause_of self.new.rejection
-            ≡ (if is_some self.old.rejection then cause_of self.old.rejection else break_at line taken) }
-        ensures goes { result ≡ true → taken ≡ Legal }
-        ensures stops { result ≡ false → taken ≢ Legal }
-        ensures judge { self.new.judge ≡ self.old.judge }
-        ensures rest { KeepsReader self.old self.new }
+    /// Takes the datum of a line of a log, or rejects one that does not go on from the line before.
+    fn take_datum(&mut self, datum: &LogDatum, line: u64) -> Result<bool, AllocError>
+        ensures going { IsGoing self.old → IfOk result (λ goes_on. goes_on ≡ is_going self.new) }
+        ensures line { IsGoing self.old → IfOk result (λ _. TakesLine self.old self.new line (Ok (Datum datum.now))) }
+        ensures log { IfOk result (λ _. self.new.log ≡ self.old.log) }
+        ensures kind { IfOk result (λ _. self.new.kind ≡ self.old.kind) }
+        ensures vcd { IfOk result (λ _. self.new.vcd ≡ self.old.vcd) }
     {
-        match taken {
-            Taken::Legal => true,
-            Taken::Illegal => false,
-            Taken::Broken(broken) => {
-                self.reject(Why::Break(broken), line);
-                false
-            }
+        if let Some(why) = self.state.break_after(datum) {
+            self.reject(Why::Break(why), line);
+            return Ok(false);
         }
+        self.state.datum(&mut self.judge, datum, line)
     }
 
     /// Ends the trace. One of blanks alone is a log.
@@ -253,13 +229,10 @@ impl<'a> Run<'a> {
     ///
     /// An allocation failed.
     pub(crate) fn end(&mut self) -> Result<(), AllocError>
-        ensures judges { IfOk result (λ _. is_no_dump self.old.kind ≡ true →
-            IsJudgedAs (log_whole self.old []) (run_so_far self.new) (standing self.new.judge)) }
-        ensures stays { IfOk result (λ _. is_no_dump self.old.kind ≡ true → StaysFound self.old self.new) }
-        ensures once { IfOk result (λ _. is_no_dump self.old.kind ≡ true →
-            IsOnceRun self.old → IsGoing self.old → IsOnceRun self.new) }
+        ensures judges { is_no_dump self.old.kind ≡ true → IsGoing self.old →
+            IfOk result (λ _. log_whole self.old [] ≡ run_so_far self.new) }
         ensures dump { (map : Map) (reached : Reached) → self.old.kind ≡ Dump → HasReached map reached self.old.vcd →
-            IfOk result (λ _. EndsDump map self.old self.new reached) }
+            IsGoing self.old → IfOk result (λ _. EndsDump map self.old self.new reached) }
         ensures kind { IfOk result (λ _. self.new.kind ≡ self.old.kind) }
     {
         match self.kind {
@@ -270,10 +243,7 @@ impl<'a> Run<'a> {
 
     /// Ends a log, whose last line may have no line feed.
     fn end_log(&mut self) -> Result<(), AllocError>
-        ensures judges { IfOk result (λ _.
-            IsJudgedAs (log_whole self.old []) (run_so_far self.new) (standing self.new.judge)) }
-        ensures stays { IfOk result (λ _. StaysFound self.old self.new) }
-        ensures once { IfOk result (λ _. IsOnceRun self.old → IsGoing self.old → IsOnceRun self.new) }
+        ensures judges { IsGoing self.old → IfOk result (λ _. log_whole self.old [] ≡ run_so_far self.new) }
         ensures kind { IfOk result (λ _. self.new.kind ≡ self.old.kind) }
     {
         let line = self.log.number();

@@ -1,5 +1,6 @@
 //! The transfer in which a sample lies.
 ghost use Rattle.std.specs.Prelude.{◌≡◌};
+ghost use Rattle.vme_judge.specs.Forgetting.{bytes_of};
 ghost use Rattle.vme_judge.specs.Seen.{driver_of, opened_by};
 
 use vme_protocol::{Sample, Transfer};
@@ -38,7 +39,9 @@ pub(crate) fn driver_of(drivers: u32) -> Option<u8>
 
 /// Returns how many bytes a transfer may write from its address on: of a block those up to the end of
 /// its unit.
-pub(crate) fn bytes_of(transfer: &Transfer) -> u32 {
+pub(crate) fn bytes_of(transfer: &Transfer) -> u32
+    ensures { result ≡ bytes_of transfer.now }
+{
     if transfer.wide {
         WIDE_UNIT - transfer.base % WIDE_UNIT
     } else if transfer.block {

@@ -3,10 +3,11 @@ ghost use Rattle.std.specs.Prelude.{◌≡◌, ◌++◌, map, string_bytes, IfOk
 ghost use Rattle.vme_judge.specs.AssumedTexts.{ports_shown};
 ghost use Rattle.vme_judge.specs.DumpRuns.{dump_so_far};
 ghost use Rattle.vme_judge.specs.Dumps.{dump_status};
+ghost use Rattle.vme_judge.specs.FindingTexts.{beside, comment, commented, finding_text, found_text};
 ghost use Rattle.vme_judge.specs.Logs.{status_of};
 ghost use Rattle.vme_judge.specs.RejectionTexts.{rejected_text};
 ghost use Rattle.vme_judge.specs.Runs.{run_so_far};
-ghost use Rattle.vme_judge.specs.VerdictTexts.{beside, comment, commented, ending_of, ending_status, finding_text, found_text, is_dump, last_finding, lists_text, rejection_of, rest_lines, rest_text, seen_text, text_by, verdict_name, verdict_text};
+ghost use Rattle.vme_judge.specs.VerdictTexts.{ending_of, ending_status, is_dump, last_finding, lists_text, rejection_of, rest_lines, rest_text, seen_text, text_by, verdict_name, verdict_text};
 
 use crate::assumed::assumed;
 use crate::boards::Board;

@@ -1,7 +1,7 @@
 use Rattle.std.proofs.Common.{◌++◌, flat_map, string_bytes, ap, ◌∙◌}
 use Rattle.std.proofs.lemmas.Iterator.Splits.{YieldsList-from_lines}
 use Rattle.std.proofs.lemmas.Iterator.Consumers.{YieldsList-end}
-use Rattle.vme_judge.specs.VerdictTexts.{comment, commented}
+use Rattle.vme_judge.specs.FindingTexts.{comment, commented}
 use Rattle.vme_judge.proofs.verdict.write_commented.Goals as goal
 
 pub returns : goal.returns

@@ -1,5 +1,5 @@
 use Rattle.std.proofs.Common.{◌≡◌, ◌++◌, flat_map, map, string_bytes}
-use Rattle.vme_judge.specs.VerdictTexts.{comment}
+use Rattle.vme_judge.specs.FindingTexts.{comment}
 use Rattle.vme_judge.proofs.verdict.write_commented.Given as goal
 
 -- the lines so far are written

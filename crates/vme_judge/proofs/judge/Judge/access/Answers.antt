@@ -1,5 +1,7 @@
-use Rattle.std.proofs.Common.{ap, sym, ◌∙◌}
+use Rattle.std.proofs.Common.{ℕ, ◌++◌, ap, sym, ◌∙◌}
+use Rattle.std.specs.Prelude.{string_bytes}
 use Rattle.vme_judge.specs.declared.judge.Judge.{Judge}
+use Rattle.vme_judge.specs.LogLines.{access_printed}
 use Rattle.vme_judge.specs.Standing.{Standing, state_of}
 use Rattle.vme_judge.proofs.Samples.{accessed_then, fallen_is, fallen_stays, goes_accessed}
 use Rattle.vme_judge.specs.Logs.{access_taken}
@@ -13,15 +15,19 @@ returns-then-is_some-clause-legal c = fallen_is c.args.self.now (sym c.is_some.e
 
 pub returns-clause-standing : goal.returns-clause-standing
 returns-clause-standing c =
+    let was : Standing = state_of c.args.self.now in
     accessed_then c.args.self.now c.print_access.new.self c.access_at.new.self c.args.spot c.args.slot c.args.access.now _ (sym c.is_some.ensures ∙ c.if-is_some.false)
-    (ap state_of c.in_ok-print_access.ensures
-    ∙ ap (λ n. let r : Standing = record (state_of c.args.self.now) { counts = record c.args.self.now.counts { accesses = n } } in r)
-    c.count.ensures) (ap (λ (j : Judge). j.finding) c.in_ok-print_access.ensures)
-    (ap (λ (j : Judge). j.found) c.in_ok-print_access.ensures)
-    c.access_at.ensures.task c.board_in-board.ensures c.access_at.ensures.access
+    (ap state_of c.in_ok-print_access.ensures.rest
+    ∙ ap (λ said. let r : Standing = record was { counts = record was.counts { accesses = c.count.new.number }; said = said } in r)
+    c.in_ok-print_access.ensures.line
+    ∙ ap (λ n. let r : Standing = record was {
+      counts = record was.counts { accesses = n };
+      said = was.said ++ access_printed was.options.log c.args.spot c.args.slot c.args.access.now;
+    } in r) c.count.ensures)
+    (ap (λ (j : Judge). j.finding) c.in_ok-print_access.ensures.rest)
+    c.board_in-board.ensures c.access_at.ensures.access
 
 pub returns-clause-legal : goal.returns-clause-legal
 returns-clause-legal c =
     goes_accessed c.args.self.now c.print_access.new.self c.access_at.new.self c.access_at.result (sym c.is_some.ensures ∙ c.if-is_some.false)
-    (ap (λ (j : Judge). j.finding) c.in_ok-print_access.ensures) (ap (λ (j : Judge). j.found) c.in_ok-print_access.ensures) c.access_at.ensures.task
-    c.access_at.ensures.legal
+    (ap (λ (j : Judge). j.finding) c.in_ok-print_access.ensures.rest) c.access_at.ensures.legal

@@ -12,8 +12,8 @@ returns-then-is_some-clause-legal c = fallen_is c.args.self.now (sym c.is_some.e
 
 pub returns-clause-standing : goal.returns-clause-standing
 returns-clause-standing c =
-    stands_then c.args.self.now c.step.new.self c.args.spot c.args.undefined c.args.sample.now c.step.result (sym c.is_some.ensures ∙ c.if-is_some.false) c.step.ensures.task
+    stands_then c.args.self.now c.step.new.self c.args.spot c.args.undefined c.args.sample.now c.step.result (sym c.is_some.ensures ∙ c.if-is_some.false)
     c.step.ensures.step
 
 pub returns-clause-legal : goal.returns-clause-legal
-returns-clause-legal c = goes_then c.args.self.now c.step.new.self c.step.result (sym c.is_some.ensures ∙ c.if-is_some.false) c.step.ensures.task c.step.ensures.legal
+returns-clause-legal c = goes_then c.args.self.now c.step.new.self c.step.result (sym c.is_some.ensures ∙ c.if-is_some.false) c.step.ensures.legal

@@ -1,4 +1,4 @@
-use Rattle.std.proofs.Common.{◌≡◌, true, false, inl, refl, rules, ◌∙◌}
+use Rattle.std.proofs.Common.{◌≡◌, true, false, refl, rules, sym, ◌∙◌}
 use Rattle.std.proofs.lemmas.Bool.{not-true, not-false}
 use Rattle.vme_judge.specs.Runs.{run_so_far}
 use Rattle.vme_judge.proofs.Blanks.{blanks_from, blanks_kept, blanks_over, blanks_stop, part_blanks}
@@ -7,9 +7,8 @@ use Rattle.vme_judge.proofs.run.Run.push_log_all.Goals as goal
 
 pub loop-line-init : goal.loop-line-init
 loop-line-init c = record {
-  judges = λ rest. inl refl;
-  stays = λ found fell. fell;
-  once = λ once going. (once, going);
+  judges = λ on rest. refl;
+  going = λ on. on;
   kind = refl;
   vcd = refl;
   blanks = λ line. blanks_from line c.args.self.now c.args.bytes.now;
@@ -19,14 +18,11 @@ pub loop-line-preserved : goal.loop-line-preserved
 loop-line-preserved c =
     let on : c.in_ok-goes_on.goes_on ≡ true = search (rules, not-false) in
     record {
-      judges =
+      judges = λ going.
           leaves_after c.args.self.now c.loop-line.self c.push_line.new.self c.args.bytes.now c.loop-line.rest.now c.in-Some.line.now
-          c.in-Some.after.now c.loop-line.invariant.judges c.in-Some.ensures.parts c.in_ok-goes_on.ensures.judges c.in_ok-goes_on.ensures.stays;
-      stays = λ found fell. c.in_ok-goes_on.ensures.stays found (c.loop-line.invariant.stays found fell);
-      once = λ once going.
-          let had = c.loop-line.invariant.once once going in
-          let has = c.in_ok-goes_on.ensures.once had.0 had.1 in
-          (has.0, has.1 on);
+          c.in-Some.after.now (c.loop-line.invariant.judges going) c.in-Some.ensures.parts
+          (c.in_ok-goes_on.ensures.judges (c.loop-line.invariant.going going));
+      going = λ going. sym (c.in_ok-goes_on.ensures.going (c.loop-line.invariant.going going)) ∙ on;
       kind = c.in_ok-goes_on.ensures.kind ∙ c.loop-line.invariant.kind;
       vcd = c.in_ok-goes_on.ensures.vcd ∙ c.loop-line.invariant.vcd;
       blanks = λ line are is.
@@ -51,15 +47,21 @@ returns-clause-blanks c = λ line are is.
     c.keep_all.ensures.number
 
 pub returns-then-not-goes_on-clause-judges : goal.returns-then-not-goes_on-clause-judges
-returns-then-not-goes_on-clause-judges c =
+returns-then-not-goes_on-clause-judges c = λ going.
     let stopped : c.in_ok-goes_on.goes_on ≡ false = search (rules, not-true) in
+    let was = c.loop-line.invariant.going going in
     judges_all c.args.self.now c.push_line.new.self c.args.bytes.now c.in-Some.after.now
     (leaves_after c.args.self.now c.loop-line.self c.push_line.new.self c.args.bytes.now c.loop-line.rest.now c.in-Some.line.now c.in-Some.after.now
-    c.loop-line.invariant.judges c.in-Some.ensures.parts c.in_ok-goes_on.ensures.judges c.in_ok-goes_on.ensures.stays)
-    (c.in_ok-goes_on.ensures.stops stopped)
+    (c.loop-line.invariant.judges going) c.in-Some.ensures.parts (c.in_ok-goes_on.ensures.judges was))
+    (sym (c.in_ok-goes_on.ensures.going was) ∙ stopped)
+
+pub returns-then-not-goes_on-clause-going : goal.returns-then-not-goes_on-clause-going
+returns-then-not-goes_on-clause-going c = λ going.
+    let stopped : c.in_ok-goes_on.goes_on ≡ false = search (rules, not-true) in
+    sym stopped ∙ c.in_ok-goes_on.ensures.going (c.loop-line.invariant.going going)
 
 pub returns-clause-judges : goal.returns-clause-judges
 unfolding run_so_far
-returns-clause-judges c =
+returns-clause-judges c = λ going.
     judges_kept c.args.self.now c.loop-line.self (record c.loop-line.self { log = c.keep_all.new.self }) c.keep_all.new.self c.args.bytes.now
-    c.loop-line.rest.now c.loop-line.invariant.judges refl refl refl c.keep_all.ensures.begin c.keep_all.ensures.number
+    c.loop-line.rest.now (c.loop-line.invariant.judges going) refl refl c.keep_all.ensures.begin c.keep_all.ensures.number

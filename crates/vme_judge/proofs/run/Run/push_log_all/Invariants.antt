@@ -1,6 +1,6 @@
 use Rattle.std.proofs.Common.{◌≡◌, ℕ, List, length}
 use Rattle.vme_judge.specs.Blanks.{AreBlanks, IsBlankLine}
-use Rattle.vme_judge.specs.Runs.{IsGoing, IsOnceRun, StaysFound}
+use Rattle.vme_judge.specs.Runs.{IsGoing}
 use Rattle.vme_judge.proofs.Blanks.{BlanksTo}
 use Rattle.vme_judge.proofs.Runs.{Leaves}
 use Rattle.vme_judge.proofs.run.Run.push_log_all.Given as goal
@@ -8,9 +8,8 @@ use Rattle.vme_judge.proofs.run.Run.push_log_all.Given as goal
 -- the bytes before the rest are judged
 abbrev pub invariant-loop-line : goal.invariant-loop-line
 invariant-loop-line l = record {
-  judges : Leaves l.initial.self l.self l.bytes l.rest;
-  stays : StaysFound l.initial.self l.self;
-  once : IsOnceRun l.initial.self → IsGoing l.initial.self → IsOnceRun l.self × IsGoing l.self;
+  judges : IsGoing l.initial.self → Leaves l.initial.self l.self l.bytes l.rest;
+  going : IsGoing l.initial.self → IsGoing l.self;
   kind : l.self.kind ≡ l.initial.self.kind;
   vcd : l.self.vcd ≡ l.initial.self.vcd;
   blanks : (line : List ℕ) → AreBlanks l.bytes → IsBlankLine line l.initial.self.log → BlanksTo line l.initial.self l.self l.bytes l.rest;
